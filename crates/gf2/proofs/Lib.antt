@@ -1,0 +1,16 @@
+pub mod Ring
+pub mod Pigeonhole
+pub mod Orbit
+pub mod Laws
+pub mod PowerLaws
+pub mod Generators
+pub mod Five
+pub mod Table
+pub mod Vandermonde
+pub mod Roots
+pub mod Masks
+pub mod Sums
+pub mod Digits
+pub mod Places
+pub mod Numbered
+pub mod Weights

@@ -1,0 +1,79 @@
+-- Bits by their numbers, and the bits of bytes: bit number i + 1 stands at i.
+use mathlib.Core.Path.{_≡_, refl, sym, ap, ap₂, _∙_}
+use mathlib.Core.Bool.{Bool, true, false, not}
+use mathlib.Core.List.{List, [], _∷_}
+use Prim.Native.Nat.{ℕ, zero, suc, _+_, _-_, _*_, _/_, _%_, _^_, _≤_, _<_}
+use native.Mathlib.Nat.{mod-lt, zero-lt-suc, div-add-mod', le-of-suc-le-suc, not-suc-le-zero}
+use native.Mathlib.Omega.{arith}
+use lib.ListN.{length, getD, set}
+use lib.Bits.{bitXor}
+use lib.Dec.{eqb}
+use Rattle.std.proofs.shelf.Lists.{set-past}
+use Rattle.std.specs.declared.option.Option.{Option}
+use Rattle.std.specs.declared.option.Option.the-variants.{None, Some}
+use Rattle.gf2.specs.Words.{bits, bit-number, flipped}
+use Rattle.gf2.proofs.Places.{bits-at, bits-set, bits-length}
+
+pub bit-number-zero : (w : List Bool) → bit-number w 0 ≡ None
+bit-number-zero [] = refl
+bit-number-zero (b ∷ w) = refl
+
+pub bit-number-at : (w : List Bool) (i : ℕ) → i < length w → bit-number w (suc i) ≡ Some (getD w i false)
+bit-number-at [] i h = absurd (not-suc-le-zero h)
+bit-number-at (b ∷ w) zero h = refl
+bit-number-at (b ∷ w) (suc i) h = bit-number-at w i (le-of-suc-le-suc h)
+
+pub bit-number-past : (w : List Bool) (i : ℕ) → length w ≤ i → bit-number w (suc i) ≡ None
+bit-number-past [] i h = refl
+bit-number-past (b ∷ w) zero h = absurd (not-suc-le-zero h)
+bit-number-past (b ∷ w) (suc i) h = bit-number-past w i (le-of-suc-le-suc h)
+
+pub flipped-zero : (w : List Bool) → flipped w 0 ≡ w
+flipped-zero [] = refl
+flipped-zero (b ∷ w) = refl
+
+pub flipped-at : (w : List Bool) (i : ℕ) → flipped w (suc i) ≡ set w i (not (getD w i false))
+flipped-at [] i = refl
+flipped-at (b ∷ w) zero = refl
+flipped-at (b ∷ w) (suc i) = ap (λ (r : List Bool). b ∷ r) (flipped-at w i)
+
+-- a word without that bit is left as it is
+pub flipped-none : (w : List Bool) (i : ℕ) → bit-number w i ≡ None → flipped w i ≡ w
+flipped-none [] i h = refl
+flipped-none (b ∷ w) zero h = refl
+flipped-none (b ∷ w) (suc zero) h = let z : _≡_ {A = ℕ} 0 1 = cc in absurd (omega arith)
+flipped-none (b ∷ w) (suc (suc i)) h = ap (λ (r : List Bool). b ∷ r) (flipped-none w (suc i) h)
+
+-- a flipped bit is the other
+pub flipped-bit : (w : List Bool) (i : ℕ) (b : Bool) → bit-number w i ≡ Some b → bit-number (flipped w i) i ≡ Some (not b)
+flipped-bit [] i b h = let z : _≡_ {A = ℕ} 0 1 = cc in absurd (omega arith)
+flipped-bit (d ∷ w) zero b h = let z : _≡_ {A = ℕ} 0 1 = cc in absurd (omega arith)
+flipped-bit (d ∷ w) (suc zero) b h = let e : d ≡ b = cc in ap (λ (x : Bool). Some (not x)) e
+flipped-bit (d ∷ w) (suc (suc i)) b h = flipped-bit w (suc i) b h
+
+-- a word with bit number i has at least i bits, and i is not 0
+pub within : (w : List Bool) (i : ℕ) (b : Bool) → bit-number w i ≡ Some b → (0 < i) × (i ≤ length w)
+within [] i b h = let z : _≡_ {A = ℕ} 0 1 = cc in absurd (omega arith)
+within (d ∷ w) zero b h = let z : _≡_ {A = ℕ} 0 1 = cc in absurd (omega arith)
+within (d ∷ w) (suc zero) b h = (omega arith, omega arith)
+within (d ∷ w) (suc (suc i)) b h = let r = within w (suc i) b h in (omega arith, omega arith)
+
+-- the bit of the byte at place / 8
+pub byte-bit : (bs : List ℕ) (place : ℕ) → place / 8 < length bs → getD (bits bs) place false ≡ eqb (getD bs (place / 8) 0 / 2 ^ (7 - place % 8) % 2) 1
+byte-bit bs place h = ap (λ (k : ℕ). getD (bits bs) k false) (sym (div-add-mod' place 8)) ∙ bits-at bs (place / 8) (place % 8) h (mod-lt place (zero-lt-suc 7))
+
+pub byte-flipped : (bs : List ℕ) (place : ℕ) → place / 8 < length bs
+    → bits (set bs (place / 8) (bitXor (getD bs (place / 8) 0) (2 ^ (7 - place % 8)))) ≡ flipped (bits bs) (suc place)
+byte-flipped bs place h =
+    bits-set bs (place / 8) (place % 8) h (mod-lt place (zero-lt-suc 7))
+    ∙ ap₂ (set (bits bs)) (div-add-mod' place 8) (ap not (sym (byte-bit bs place h)))
+    ∙ sym (flipped-at (bits bs) place)
+
+pub within-bytes : (bs : List ℕ) (place : ℕ) → place < length (bits bs) → place / 8 < length bs
+within-bytes bs place h = omega (arith, bits-length bs)
+
+pub inside-bytes : (bs : List ℕ) (place : ℕ) → place / 8 < length bs → place < length (bits bs)
+inside-bytes bs place h = omega (arith, bits-length bs)
+
+pub past-bytes : (bs : List ℕ) (place : ℕ) → length bs ≤ place / 8 → length (bits bs) ≤ place
+past-bytes bs place h = omega (arith, bits-length bs)

@@ -1,0 +1,94 @@
+-- The five binary fields. An element of the field of 2^m elements is m bits, the coefficients from x^(m-1) down to 1; alpha is x, the number 2.
+use mathlib.Core.Path.{_≡_}
+use mathlib.Core.Bool.{cond}
+use mathlib.Core.List.{List}
+use mathlib.Core.Logic.{_≢_}
+use Prim.Native.Nat.{ℕ, suc, _-_, _%_, _^_, _<_}
+use lib.Bits.{bitXor}
+use lib.Dec.{eqb}
+use lib.ListN.{length, getD}
+use Rattle.std.specs.declared.option.Option.{Option}
+use Rattle.std.specs.declared.option.Option.the-variants.{None, Some}
+use Rattle.gf2.specs.declared.field.Field.{Field}
+use Rattle.gf2.specs.declared.field.Field.the-variants.{Three, Five, Eight, Ten, Fourteen}
+use Rattle.gf2.specs.Product.{times, times-x}
+use Rattle.gf2.specs.Polynomials.{power as power-under}
+
+-- m - 1, the highest exponent in an element
+abbrev pub top : Field → ℕ
+top Three = 2
+top Five = 4
+top Eight = 7
+top Ten = 9
+top Fourteen = 13
+
+-- the modulus without x^m: x+1, x^2+1, x^4+x^3+x^2+1, x^3+1, x^10+x^6+x+1
+abbrev pub modulus-tail : Field → ℕ
+modulus-tail Three = 0b011
+modulus-tail Five = 0b0_0101
+modulus-tail Eight = 0b0001_1101
+modulus-tail Ten = 0b00_0000_1001
+modulus-tail Fourteen = 0b00_0100_0100_0011
+
+-- m, the bits of an element
+abbrev pub width : Field → ℕ
+width F = suc (top F)
+
+-- the field of 2^m elements, if it is one of the five
+abbrev pub field-of : ℕ → Option Field
+field-of m =
+    cond (eqb m 3) (Some Three) (cond (eqb m 5) (Some Five) (cond (eqb m 8) (Some Eight) (cond (eqb m 10) (Some Ten) (cond (eqb m 14) (Some Fourteen) None))))
+
+-- the element that a number stands for: its low m bits
+abbrev pub element : Field → ℕ → ℕ
+element F a = a % 2 ^ width F
+
+abbrev pub sum : Field → ℕ → ℕ → ℕ
+sum F a b = element F (bitXor a b)
+
+abbrev pub alpha-times : Field → ℕ → ℕ
+alpha-times F = times-x (top F) (modulus-tail F)
+
+abbrev pub product : Field → ℕ → ℕ → ℕ
+product F = times (top F) (modulus-tail F)
+
+abbrev pub power : Field → ℕ → ℕ → ℕ
+power F = power-under (product F)
+
+abbrev pub alpha : ℕ
+alpha = 2
+
+-- the inverse of an element is its power 2^m - 2; the element 0 has none
+abbrev pub inverse : Field → ℕ → Option ℕ
+inverse F a = cond (eqb (element F a) 0) None (Some (power F a (2 ^ width F - 2)))
+
+-- what makes r the inverse of a: an element whose product with a is 1, or none where a stands for 0
+abbrev pub Inverse : Field → ℕ → Option ℕ → Type 0
+Inverse F a None = element F a ≡ 0
+Inverse F a (Some b) = (b < 2 ^ width F) × (product F a b ≡ 1)
+
+-- a table that begins with alpha^0, and where each entry is alpha times the one before
+pub record Powers-of-alpha (F : Field) (table : List ℕ) : Type 0 where
+  pub first : getD table 0 0 ≡ 1
+  pub next : (i : ℕ) → suc i < length table → getD table (suc i) 0 ≡ alpha-times F (getD table i 0)
+
+-- what holds of the product for every width k and modulus; only the unit asks for an element
+pub record IsRing (k : ℕ) (m : ℕ → ℕ → ℕ) : Type 0 where
+  pub closed : (a b : ℕ) → m a b < 2 ^ k
+  pub comm : (a b : ℕ) → m a b ≡ m b a
+  pub assoc : (a b c : ℕ) → m (m a b) c ≡ m a (m b c)
+  pub dist : (a b c : ℕ) → m a (bitXor b c) ≡ bitXor (m a b) (m a c)
+  pub unit : (a : ℕ) → a < 2 ^ k → m 1 a ≡ a
+  pub nought : (a : ℕ) → m a 0 ≡ 0
+
+pub record IsField (k : ℕ) (m : ℕ → ℕ → ℕ) : Type 0 where
+  pub ring : IsRing k m
+  pub two : 1 < 2 ^ k
+  pub inverse : (a : ℕ) → a < 2 ^ k → a ≢ 0 → (b : ℕ) × (m a b ≡ 1)
+  pub nodiv : (a b : ℕ) → a < 2 ^ k → b < 2 ^ k → a ≢ 0 → m a b ≡ 0 → b ≡ 0
+
+-- the powers 0 to 2^m - 2 of alpha are distinct and run through every element but 0; the next is 1 again
+pub record Alpha-generates (k : ℕ) (m : ℕ → ℕ → ℕ) : Type 0 where
+  pub distinct : (i j : ℕ) → i < j → j < 2 ^ k - 1 → power-under m alpha i ≢ power-under m alpha j
+  pub reaches : (a : ℕ) → a < 2 ^ k → a ≢ 0 → (i : ℕ) × (i < 2 ^ k - 1) × (power-under m alpha i ≡ a)
+  pub around : power-under m alpha (2 ^ k - 1) ≡ 1

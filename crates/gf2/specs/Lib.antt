@@ -1,0 +1,4 @@
+pub mod Words
+pub mod Product
+pub mod Fields
+pub mod Polynomials

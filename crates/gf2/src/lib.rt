@@ -1,0 +1,4 @@
+// Bits of bytes and the five binary fields: what the page code rests on.
+pub mod bits;
+pub mod field;
+pub mod powers;
