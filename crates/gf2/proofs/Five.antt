@@ -8,7 +8,7 @@ use Rattle.gf2.specs.declared.field.Field.{Field}
 use Rattle.gf2.specs.declared.field.Field.the-variants.{Three, Five, Eight, Ten, Fourteen}
 use Rattle.gf2.specs.Product.{times-x, shifted, avoids-one}
 use Rattle.gf2.specs.Fields.{top, modulus-tail, width, element, product, power, IsRing, IsField, Alpha-generates}
-use Rattle.gf2.proofs.Laws.{isRing, isField}
+use Rattle.gf2.proofs.Algebra.{isRing, isField}
 use Rattle.gf2.proofs.Generators as generators
 
 -- the modulus fits, and the powers of x come back to 1 after 2^m - 1 steps and not before

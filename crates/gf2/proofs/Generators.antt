@@ -9,7 +9,7 @@ use lib.Pow.{pow-pos}
 use Rattle.gf2.specs.Product.{times, shifted, times-x, avoids-one}
 use Rattle.gf2.specs.Polynomials.{power}
 use Rattle.gf2.specs.Fields.{Alpha-generates}
-use Rattle.gf2.proofs.Laws.{isRing}
+use Rattle.gf2.proofs.Algebra.{isRing}
 use Rattle.gf2.proofs.Orbit as orbit
 use Rattle.gf2.proofs.PowerLaws as powers
 use Rattle.gf2.proofs.Ring as ring

@@ -1,7 +1,7 @@
 pub mod Ring
 pub mod Pigeonhole
 pub mod Orbit
-pub mod Laws
+pub mod Algebra
 pub mod PowerLaws
 pub mod Generators
 pub mod Five
@@ -14,3 +14,4 @@ pub mod Digits
 pub mod Places
 pub mod Numbered
 pub mod Weights
+pub mod WordLaws

@@ -2,3 +2,4 @@ pub mod Words
 pub mod Product
 pub mod Fields
 pub mod Polynomials
+pub mod WordLaws

@@ -1,0 +1,32 @@
+// The nonlinear bits of a word: the sum of the products of neighbouring groups.
+ghost use mathlib.Core.Path.{_≡_};
+ghost use mathlib.Core.Bool.{cond};
+ghost use Prim.Native.Nat.{_+_, _*_, _^_, _<_};
+ghost use lib.Dec.{leb};
+ghost use lib.ListN.{length, take, drop};
+ghost use Rattle.std.specs.declared.option.Option.the-variants.{None, Some};
+ghost use Rattle.gf2.specs.Words.{bits, number as number-of};
+ghost use Rattle.gf2.specs.Fields.{width as width-of, product};
+ghost use Rattle.pagecode.specs.Groups.{f-of-first, product-behind};
+use gf2::bits::number;
+use gf2::field::Field;
+
+// Why a run of bits has no f.
+#[derive(Clone, Copy, PartialEq, Eq, Debug)]
+pub enum Misfit {
+    // No field of the five has elements of that many bits.
+    NoField,
+    // The run is no multiple of two groups, or the bytes hold fewer bits.
+    Length,
+}
+
+// The product of the two groups behind the first `skip` bits; none where the bytes end before.
+fn pair_product(field: Field, bytes: &[u8], skip: usize) -> Option<u16>
+    requires fits { ⌜ skip + 2 * width-of field < 2 ^ 64 ⌝ }
+    ensures product_of_the_next_two { λ r. ⌜ r ≡ product-behind field (bits (now (bytes .entry))) skip ⌝ }
+{
+    let width = field.width();
+    let a = number(bytes, skip, width)?;
+    let b = number(bytes, skip + width as usize, width)?;
+    Some(field.product(a, b))
+}
