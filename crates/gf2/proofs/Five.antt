@@ -1,13 +1,17 @@
 -- The five fields: for each one test that runs through the powers of x.
-use mathlib.Core.Path.{_≡_, refl, ap, _∙_}
+use mathlib.Core.Path.{_≡_, refl, sym, ap, _∙_}
+use mathlib.Core.Bool.{Bool, true, false, cond}
 use mathlib.Core.Logic.{_≢_}
 use Prim.Native.Nat.{ℕ, suc, _-_, _^_, _<_, _≤_}
 use native.Mathlib.Omega.{arith}
-use lib.Dec.{T, lit<, lit≤}
+use lib.Dec.{T, eqb, lit<, lit≤}
+use Rattle.std.proofs.shelf.Tests.{eqb-true}
+use Rattle.std.specs.declared.option.Option.{Option}
+use Rattle.std.specs.declared.option.Option.the-variants.{None, Some}
 use Rattle.gf2.specs.declared.field.Field.{Field}
 use Rattle.gf2.specs.declared.field.Field.the-variants.{Three, Five, Eight, Ten, Fourteen}
 use Rattle.gf2.specs.Product.{times-x, shifted, avoids-one}
-use Rattle.gf2.specs.Fields.{top, modulus-tail, width, element, product, power, IsRing, IsField, Alpha-generates}
+use Rattle.gf2.specs.Fields.{top, modulus-tail, width, field-of, element, product, power, IsRing, IsField, Alpha-generates}
 use Rattle.gf2.proofs.Algebra.{isRing, isField}
 use Rattle.gf2.proofs.Generators as generators
 
@@ -50,3 +54,17 @@ inverts F a z =
     let t = tested F in
     ap (λ (e : ℕ). product F a (power F a e)) (let e : 2 ^ width F - 2 ≡ 2 ^ width F - 1 - 1 = omega arith in e)
     ∙ generators.inverts (top F) (modulus-tail F) (t .fits) (2 ^ width F - 1) (t .back) (t .size) (t .before) a z
+
+-- the field of a width has that width
+pub field-of-width : (m : ℕ) (F : Field) → field-of m ≡ Some F → width F ≡ m
+field-of-width m F = at Three (at Five (at Eight (at Ten (at Fourteen none))))
+  where
+    at : (G : Field) {rest : Option Field} → (rest ≡ Some F → width F ≡ m) → cond (eqb m (width G)) (Some G) rest ≡ Some F → width F ≡ m
+    at G {rest} later = go (eqb m (width G)) refl
+      where
+        go : (b : Bool) → eqb m (width G) ≡ b → cond b (Some G) rest ≡ Some F → width F ≡ m
+        go true e h = let same : F ≡ G = cc in ap width same ∙ sym (eqb-true m (width G) e)
+        go false e h = later h
+
+    none : None ≡ Some F → width F ≡ m
+    none h = let z : _≡_ {A = ℕ} 0 1 = cc in absurd (omega arith)

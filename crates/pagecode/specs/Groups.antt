@@ -41,10 +41,11 @@ product-behind F w s =
 abbrev pub pairs-of-groups : Field → List Bool → ℕ → Bool
 pairs-of-groups F w k = cond (eqb (k % (2 * width F)) 0) (leb k (length w)) false
 
--- f of the first k of the bits w with groups of r2, or what does not fit
+-- f of the first k of the bits w over that field, or what does not fit
+abbrev pub f-over : Option Field → List Bool → ℕ → Result ℕ Misfit
+f-over None w k = Err NoField
+f-over (Some F) w k = cond (pairs-of-groups F w k) (Ok (f F (take k w))) (Err Length)
+
+-- the same with groups of r2 bits
 abbrev pub f-of-first : List Bool → ℕ → ℕ → Result ℕ Misfit
-f-of-first w k r2 =
-    elim (field-of r2) [
-      None ↦ Err NoField
-      | Some F ↦ cond (pairs-of-groups F w k) (Ok (f F (take k w))) (Err Length)
-    ]
+f-of-first w k r2 = f-over (field-of r2) w k

@@ -30,3 +30,24 @@ fn pair_product(field: Field, bytes: &[u8], skip: usize) -> Option<u16>
     let b = number(bytes, skip + width as usize, width)?;
     Some(field.product(a, b))
 }
+
+// f of the first `count` bits, cut into groups of `width` bits: its bits are the low `width` bits of the answer, the first the highest.
+pub fn nonlinear_bits(bytes: &[u8], count: usize, width: u32) -> Result<u16, Misfit>
+    ensures f_of_the_first_bits_or_what_does_not_fit { λ r. ⌜ r ≡ f-of-first (bits (now (bytes .entry))) count width ⌝ }
+{
+    let Some(field) = Field::of_width(width) else {
+        return Err(Misfit::NoField);
+    };
+    let two_groups = 2 * width as usize;
+    if count % two_groups != 0 {
+        return Err(Misfit::Length);
+    }
+    let mut sum = 0;
+    for pair in 0..count / two_groups {
+        let Some(product) = pair_product(field, bytes, pair * two_groups) else {
+            return Err(Misfit::Length);
+        };
+        sum = field.sum(sum, product);
+    }
+    Ok(sum)
+}
