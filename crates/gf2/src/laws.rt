@@ -11,19 +11,16 @@ pub fn laws_of_words()
     ensures flipping_twice_changes_nothing { λ _. ⌜ Flipping ⌝ }
     ensures distance_is_a_metric { λ _. ⌜ Distance-is-a-metric ⌝ }
     ensures words_are_numbers { λ _. ⌜ Words-are-numbers ⌝ }
-{
-}
+{}
 
 // The product of polynomials modulo x^(n+1) + p, for every n and p.
 pub fn laws_of_the_product()
     ensures every_modulus_gives_a_ring { λ _. ⌜ ((n p : ℕ) → p < 2 ^ suc n → IsRing (suc n) (times n p)) ⌝ }
-{
-}
+{}
 
 pub fn laws_of_the_five_fields()
     ensures each_is_a_field { λ _. ⌜ ((F : Field) → IsField (width F) (product F)) ⌝ }
     ensures alpha_runs_through_every_element_but_0 { λ _. ⌜ ((F : Field) → Alpha-generates (width F) (product F)) ⌝ }
     ensures sums_of_powers_vanish_only_without_coefficients { λ _. ⌜ ((F : Field) → Vandermonde (width F) (product F)) ⌝ }
     ensures a_polynomial_has_at_most_its_degree_of_roots { λ _. ⌜ ((F : Field) → Few-roots (width F) (product F)) ⌝ }
-{
-}
+{}

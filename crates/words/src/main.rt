@@ -39,7 +39,10 @@ fn print_groups(rt: &LibcRuntime, data: &[u8], pairs: usize, field: Field) -> Re
     let width = field.width();
     print!(rt, "groups")?;
     for index in 0..pairs.saturating_mul(2) {
-        let element = Element { value: group(data, index, field), width };
+        let element = Element {
+            value: group(data, index, field),
+            width,
+        };
         print!(rt, " {element}")?;
     }
     println!(rt, "")?;
@@ -49,7 +52,10 @@ fn print_groups(rt: &LibcRuntime, data: &[u8], pairs: usize, field: Field) -> Re
         let b = group(data, first.saturating_add(1), field);
         let left = Element { value: a, width };
         let right = Element { value: b, width };
-        let product = Element { value: field.product(a, b), width };
+        let product = Element {
+            value: field.product(a, b),
+            width,
+        };
         println!(rt, "{left} * {right} = {product}")?;
     }
     Ok(())
@@ -59,12 +65,21 @@ fn print_groups(rt: &LibcRuntime, data: &[u8], pairs: usize, field: Field) -> Re
 fn explain(rt: &LibcRuntime, message: &[u8], bits: usize, field: Field) -> Result<(), AnyError> {
     let width = field.width();
     let count = bits.saturating_sub(1);
-    let shown = Bits { bytes: message, count: bits };
+    let shown = Bits {
+        bytes: message,
+        count: bits,
+    };
     println!(rt, "message {shown}")?;
-    let u = Bits { bytes: message, count: 1 };
+    let u = Bits {
+        bytes: message,
+        count: 1,
+    };
     println!(rt, "u {u}")?;
     let data = inner_data(rt.alloc(), message, count)?;
-    let v = Bits { bytes: &data, count };
+    let v = Bits {
+        bytes: &data,
+        count,
+    };
     println!(rt, "v_k {v}")?;
     print_groups(rt, &data, count / (2 * width as usize), field)?;
     let Ok(sum) = nonlinear_bits(&data, count, width) else {
@@ -72,8 +87,15 @@ fn explain(rt: &LibcRuntime, message: &[u8], bits: usize, field: Field) -> Resul
     };
     let f = Element { value: sum, width };
     println!(rt, "f {f}")?;
-    let all_u = if bit(message, 1) == Some(true) { u16::MAX } else { 0 };
-    let last = Element { value: field.sum(sum, all_u), width };
+    let all_u = if bit(message, 1) == Some(true) {
+        u16::MAX
+    } else {
+        0
+    };
+    let last = Element {
+        value: field.sum(sum, all_u),
+        width,
+    };
     println!(rt, "f with u added {last}")?;
     Ok(())
 }

@@ -12,7 +12,11 @@ pub struct Bits<'a> {
 pub impl fmt::Display for Bits<'_> as BitsDisplay {
     fn fmt<W: fmt::Write>(&self, f: &mut fmt::Formatter<W>) -> fmt::Result {
         for before in 0..self.count {
-            let digit = if bit(self.bytes, before + 1) == Some(true) { '1' } else { '0' };
+            let digit = if bit(self.bytes, before + 1) == Some(true) {
+                '1'
+            } else {
+                '0'
+            };
             write!(f, "{digit}")?;
         }
         Ok(())

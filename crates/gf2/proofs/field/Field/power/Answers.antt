@@ -32,18 +32,18 @@ loop-left-again c =
     let e = c .loop-left .left in
     let squared = c .product-square .ensures .product-of-the-elements in
     elim (c .if-left-eq1 .came) [
-      then-left-eq1 w ↦
-        let gathered = w .result-is ∙ w .product-result .ensures .product-of-the-elements in (
-          ap₂ (λ (x y : ℕ). m x (power F y (e / 2))) gathered squared
-              ∙ powers.square-odd k m R two r s e (w .if-left-eq1 .taken) ∙ c .loop-left .inv .0,
-          subst (λ (x : ℕ). x < 2 ^ k) (sym gathered) (R .closed r s),
-        )
+      | then-left-eq1 w ↦
+          let gathered = w .result-is ∙ w .product-result .ensures .product-of-the-elements in (
+            ap₂ (λ (x y : ℕ). m x (power F y (e / 2))) gathered squared
+                ∙ powers.square-odd k m R two r s e (w .if-left-eq1 .taken) ∙ c .loop-left .inv .0,
+            subst (λ (x : ℕ). x < 2 ^ k) (sym gathered) (R .closed r s),
+          )
       | else-left-eq1 w ↦
-        let even : e % 2 ≡ 0 = omega (arith, w .if-left-eq1 .left) in (
-          ap₂ (λ (x y : ℕ). m x (power F y (e / 2))) (w .result-is) squared
-              ∙ ap (m r) (powers.square-even k m R two s e even) ∙ c .loop-left .inv .0,
-          subst (λ (x : ℕ). x < 2 ^ k) (sym (w .result-is)) (c .loop-left .inv .1),
-        )
+          let even : e % 2 ≡ 0 = omega (arith, w .if-left-eq1 .left) in (
+            ap₂ (λ (x y : ℕ). m x (power F y (e / 2))) (w .result-is) squared
+                ∙ ap (m r) (powers.square-even k m R two s e even) ∙ c .loop-left .inv .0,
+            subst (λ (x : ℕ). x < 2 ^ k) (sym (w .result-is)) (c .loop-left .inv .1),
+          )
     ]
 
 pub returns : need.returns
