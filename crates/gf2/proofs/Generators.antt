@@ -15,12 +15,6 @@ use Rattle.gf2.proofs.PowerLaws as powers
 use Rattle.gf2.proofs.Ring as ring
 
 module _ (n p : ℕ) (hp : p < 2 ^ suc n) (N : ℕ) (back : shifted n p N 1 ≡ 1) where
-  one-lt : 1 < 2 ^ suc n
-  one-lt = orbit.one-lt n p hp N back
-
-  pub times-x-is-product : (a : ℕ) → a < 2 ^ suc n → times-x n p a ≡ times n p (times-x n p 1) a
-  times-x-is-product a h = sym (unfold shifted in (ring.times-shifted n p hp 1 1 a one-lt ∙ ap (times-x n p) (ring.one-times n p hp a h)))
-
   shifted-suc : (i a : ℕ) → shifted n p (suc i) a ≡ times-x n p (shifted n p i a)
   unfolding shifted
   shifted-suc zero a = refl
@@ -30,7 +24,7 @@ module _ (n p : ℕ) (hp : p < 2 ^ suc n) (N : ℕ) (back : shifted n p N 1 ≡ 
   unfolding power
   shifted-is-power zero = unfold shifted in refl
   shifted-is-power (suc i) =
-      shifted-suc i 1 ∙ times-x-is-product (shifted n p i 1) (ring.shifted-lt n p hp i 1 one-lt) ∙ ap (times n p (times-x n p 1)) (shifted-is-power i)
+      shifted-suc i 1 ∙ ring.times-x-is-product n p hp (shifted n p i 1) (ring.shifted-lt n p hp i 1 (ring.one-lt n)) ∙ ap (times n p (times-x n p 1)) (shifted-is-power i)
 
   pub power-mod : (a j : ℕ) → power (times n p) (a % 2 ^ suc n) j ≡ power (times n p) a j
   unfolding power
@@ -48,8 +42,8 @@ module _ (n p : ℕ) (hp : p < 2 ^ suc n) (N : ℕ) (back : shifted n p N 1 ≡ 
         let R = isRing n p hp in
         let x = times-x n p 1 in
         let e : suc (N - 1) ≡ N = omega (arith, r .1) in
-        ap (λ (j : ℕ). power m a j) e ∙ ap (λ (y : ℕ). power m y N) (sym (r .2) ∙ shifted-is-power i) ∙ powers.power-swap (suc n) m R one-lt x i N
-        ∙ ap (λ (y : ℕ). power m y i) (sym (shifted-is-power N) ∙ back) ∙ powers.power-of-one (suc n) m R one-lt i
+        ap (λ (j : ℕ). power m a j) e ∙ ap (λ (y : ℕ). power m y N) (sym (r .2) ∙ shifted-is-power i) ∙ powers.power-swap (suc n) m R (ring.one-lt n) x i N
+        ∙ ap (λ (y : ℕ). power m y i) (sym (shifted-is-power N) ∙ back) ∙ powers.power-of-one (suc n) m R (ring.one-lt n) i
 
     pub inverts : (a : ℕ) → a % 2 ^ suc n ≢ 0 → times n p a (power (times n p) a (N - 1)) ≡ 1
     inverts a z =

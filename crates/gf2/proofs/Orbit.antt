@@ -11,7 +11,7 @@ use lib.Pow.{pow-pos, pow-lt, pow-add, shl-shr, ones-split, high, ones-lt}
 use lib.Bits.{bitXor, xor-zero-r, xor-mod, xor-shr}
 use Rattle.gf2.specs.Product.{times-x, times, shifted, avoids-one}
 use Rattle.gf2.proofs.Pigeonhole.{pigeon}
-use Rattle.gf2.proofs.Ring.{_⊕_, times-x-zero, times-comm, times-assoc, times-zero, one-times, times-shifted, shifted-lt}
+use Rattle.gf2.proofs.Ring.{_⊕_, one-lt, times-x-zero, times-comm, times-assoc, times-zero, one-times, times-shifted, shifted-lt}
 
 module _ (n p : ℕ) where
   shifted-add : (i j a : ℕ) → shifted n p i (shifted n p j a) ≡ shifted n p (j + i) a
@@ -30,9 +30,6 @@ module _ (n p : ℕ) where
       tail false t = t
 
   module _ (hp : p < 2 ^ suc n) (N : ℕ) (back : shifted n p N 1 ≡ 1) where
-    pub one-lt : 1 < 2 ^ suc n
-    one-lt = pow-lt (zero-lt-suc n)
-
     around : (i j : ℕ) → i ≤ N → shifted n p (N - i) (shifted n p (i + j) 1) ≡ shifted n p j 1
     around i j h =
         shifted-add (N - i) (i + j) 1
@@ -75,7 +72,7 @@ module _ (n p : ℕ) where
           (r .0, r .1, omega (arith, r .2, never-zero (r .0) (omega (arith, r .1))))
         where
           low : (i : ℕ) → i < N → shifted n p i 1 - 1 < N
-          low i l = omega (arith, never-zero i (omega arith), shifted-lt n p hp i 1 one-lt)
+          low i l = omega (arith, never-zero i (omega arith), shifted-lt n p hp i 1 (one-lt n))
 
           differ : (i j : ℕ) → i < j → j < N → shifted n p i 1 - 1 ≡ shifted n p j 1 - 1 → ⊥
           differ i j l k e =
@@ -94,8 +91,8 @@ module _ (n p : ℕ) where
           let r = log a h z in
           let i = r .0 in (
             shifted n p (N - i) 1,
-            ap (λ (x : ℕ). times n p x (shifted n p (N - i) 1)) (sym (r .2)) ∙ times-shifted n p hp i 1 (shifted n p (N - i) 1) one-lt
-                ∙ ap (shifted n p i) (one-times n p hp (shifted n p (N - i) 1) (shifted-lt n p hp (N - i) 1 one-lt))
+            ap (λ (x : ℕ). times n p x (shifted n p (N - i) 1)) (sym (r .2)) ∙ times-shifted n p hp i 1 (shifted n p (N - i) 1) (one-lt n)
+                ∙ ap (shifted n p i) (one-times n p hp (shifted n p (N - i) 1) (shifted-lt n p hp (N - i) 1 (one-lt n)))
                 ∙ shifted-add i (N - i) 1 ∙ ap (λ (x : ℕ). shifted n p x 1) (let e : N - i + i ≡ N = omega (arith, r .1) in e) ∙ back,
           )
 

@@ -7,14 +7,14 @@ use Rattle.gf2.specs.Polynomials.{power}
 use Rattle.gf2.specs.Fields.{IsRing}
 
 module _ (k : ℕ) (m : ℕ → ℕ → ℕ) (R : IsRing k m) where
-  open IsRing R using (comm, assoc)
+  open IsRing R using (commutative, associative)
 
   -- a (b c) is b (a c)
   pub swap : (a b c : ℕ) → m a (m b c) ≡ m b (m a c)
-  swap a b c = sym (assoc a b c) ∙ ap (λ (x : ℕ). m x c) (comm a b) ∙ assoc b a c
+  swap a b c = sym (associative a b c) ∙ ap (λ (x : ℕ). m x c) (commutative a b) ∙ associative b a c
 
 module _ (k : ℕ) (m : ℕ → ℕ → ℕ) (R : IsRing k m) (two : 1 < 2 ^ k) where
-  open IsRing R using (closed, comm, assoc, unit)
+  open IsRing R using (closed, commutative, associative, unit)
 
   pub power-lt : (x j : ℕ) → power m x j < 2 ^ k
   unfolding power
@@ -25,7 +25,7 @@ module _ (k : ℕ) (m : ℕ → ℕ → ℕ) (R : IsRing k m) (two : 1 < 2 ^ k) 
   unfolding power
   power-add x zero j = ap (power m x) (zero-add j) ∙ sym (unit (power m x j) (power-lt x j))
   power-add x (suc i) j =
-      ap (power m x) (suc-add i j) ∙ ap (m x) (power-add x i j) ∙ sym (assoc x (power m x i) (power m x j))
+      ap (power m x) (suc-add i j) ∙ ap (m x) (power-add x i j) ∙ sym (associative x (power m x i) (power m x j))
 
   pub power-product : (a b n : ℕ) → power m (m a b) n ≡ m (power m a n) (power m b n)
   unfolding power
@@ -33,7 +33,7 @@ module _ (k : ℕ) (m : ℕ → ℕ → ℕ) (R : IsRing k m) (two : 1 < 2 ^ k) 
   power-product a b (suc n) =
       let A = power m a n in
       let B = power m b n in
-      ap (m (m a b)) (power-product a b n) ∙ assoc a b (m A B) ∙ ap (m a) (swap k m R b A B) ∙ sym (assoc a A (m b B))
+      ap (m (m a b)) (power-product a b n) ∙ associative a b (m A B) ∙ ap (m a) (swap k m R b A B) ∙ sym (associative a A (m b B))
 
   pub power-of-one : (n : ℕ) → power m 1 n ≡ 1
   unfolding power
@@ -52,7 +52,7 @@ module _ (k : ℕ) (m : ℕ → ℕ → ℕ) (R : IsRing k m) (two : 1 < 2 ^ k) 
 
   pub square-odd : (r s e : ℕ) → e % 2 ≡ 1 → m (m r s) (power m (m s s) (e / 2)) ≡ m r (power m s e)
   square-odd r s e h =
-      assoc r s (power m (m s s) (e / 2))
+      associative r s (power m (m s s) (e / 2))
       ∙ ap (m r) (ap (m s) (power-product s s (e / 2) ∙ sym (power-add s (e / 2) (e / 2))) ∙ once ∙ ap (power m s) (let q : suc (e / 2 + e / 2) ≡ e = omega arith in q))
     where
       once : m s (power m s (e / 2 + e / 2)) ≡ power m s (suc (e / 2 + e / 2))

@@ -36,6 +36,9 @@ if-set-add-right (suc d) a b = refl
 pub dig : (a : ℕ) → a % 2 < 2
 dig a = mod-lt a (zero-lt-suc 1)
 
+pub one-lt : (n : ℕ) → 1 < 2 ^ suc n
+one-lt n = pow-lt (zero-lt-suc n)
+
 pub half-lt : (k b : ℕ) → b < 2 ^ suc k → b / 2 < 2 ^ k
 half-lt k b h = omega (arith, pow-suc 2 k)
 
@@ -321,3 +324,21 @@ module _ (n p : ℕ) where
     unfolding shifted
     shifted-lt zero a h = h
     shifted-lt (suc i) a h = shifted-lt i (times-x n p a) (times-x-lt a)
+
+    -- x times a is the product of x and a
+    pub times-x-is-product : (a : ℕ) → a < 2 ^ suc n → times-x n p a ≡ times n p (times-x n p 1) a
+    times-x-is-product a h = sym (unfold shifted in (times-shifted 1 1 a (one-lt n) ∙ ap (times-x n p) (one-times a h)))
+
+    module _ (hn : 1 ≤ n) where
+      -- where x is an element
+      pub x-is-2 : times-x n p 1 ≡ 2
+      x-is-2 = times-x-small 1 (le-trans (pow-lt hn) (le-refl (2 ^ n)))
+
+      pub x-moves-up : (i : ℕ) → i < n → times n p 2 (2 ^ i) ≡ 2 ^ suc i
+      x-moves-up i h =
+          ap (λ (x : ℕ). times n p x (2 ^ i)) (sym x-is-2) ∙ sym (times-x-is-product (2 ^ i) (pow-lt (omega arith)))
+          ∙ times-x-small (2 ^ i) (pow-lt h) ∙ sym (pow-suc 2 i)
+
+      pub x-wraps : times n p 2 (2 ^ n) ≡ p
+      x-wraps =
+          ap (λ (x : ℕ). times n p x (2 ^ n)) (sym x-is-2) ∙ sym (times-x-is-product (2 ^ n) (pow-lt (le-refl (suc n)))) ∙ times-x-top

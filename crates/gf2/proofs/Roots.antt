@@ -30,8 +30,8 @@ quotient-length m x [] = refl
 quotient-length m x (d ∷ ds) = ap suc (quotient-length m x ds)
 
 module _ (k : ℕ) (m : ℕ → ℕ → ℕ) (F : IsField k m) where
-  open IsField F using (nodiv)
-  open IsRing (F .ring) using (closed, comm, assoc, dist, nought)
+  open IsField F using (no-zero-divisors)
+  open IsRing (F .ring) using (closed, commutative, associative, distributive, nought)
 
   pub value-lt : (cs : List ℕ) (z : ℕ) → All (Element k) cs → value m cs z < 2 ^ k
   unfolding value
@@ -45,11 +45,11 @@ module _ (k : ℕ) (m : ℕ → ℕ → ℕ) (F : IsField k m) where
       let E = value m (d ∷ ds) x in
       let Q = value m (quotient m x ds) z in
       let w = z ⊕ x in
-      ap (λ (y : ℕ). c ⊕ m z y) (divide d ds x z) ∙ ap (bitXor c) (dist z (m w Q) E ∙ xor-comm (m z (m w Q)) (m z E))
+      ap (λ (y : ℕ). c ⊕ m z y) (divide d ds x z) ∙ ap (bitXor c) (distributive z (m w Q) E ∙ xor-comm (m z (m w Q)) (m z E))
       ∙ xor-mid (m z E ⊕ m z (m w Q)) (m x E) c
       ∙ ap (λ (y : ℕ). y ⊕ (c ⊕ m x E))
       (xor-assoc (m z E) (m z (m w Q)) (m x E) ∙ ap (bitXor (m z E)) (xor-comm (m z (m w Q)) (m x E)) ∙ sym (xor-assoc (m z E) (m x E) (m z (m w Q)))
-      ∙ ap₂ bitXor (sym (v.dist-l k m F z x E)) (powers.swap k m (F .ring) z w Q) ∙ sym (dist w E (m z Q)))
+      ∙ ap₂ bitXor (sym (v.dist-l k m F z x E)) (powers.swap k m (F .ring) z w Q) ∙ sym (distributive w E (m z Q)))
 
   quotient-in : (x : ℕ) (cs : List ℕ) → All (Element k) cs → All (Element k) (quotient m x cs)
   unfolding quotient
@@ -84,7 +84,7 @@ module _ (k : ℕ) (m : ℕ → ℕ → ℕ) (F : IsField k m) where
     where
       back : (y : ℕ) → y < 2 ^ k → y ≢ x → value m (c ∷ cs) y ≡ 0 → value m (quotient m x cs) y ≡ 0
       back y l d e =
-          nodiv (y ⊕ x) (value m (quotient m x cs) y) (xor-lt k y x l (pts .0)) (value-lt (quotient m x cs) y (quotient-in x cs (coefs .1)))
+          no-zero-divisors (y ⊕ x) (value m (quotient m x cs) y) (xor-lt k y x l (pts .0)) (value-lt (quotient m x cs) y (quotient-in x cs (coefs .1)))
           (λ q. d (xor-eq y x q))
           (sym (xor-zero-r (m (y ⊕ x) (value m (quotient m x cs) y)))
           ∙ ap (bitXor (m (y ⊕ x) (value m (quotient m x cs) y))) (sym (zs .0)) ∙ sym (divide c cs x y) ∙ e)

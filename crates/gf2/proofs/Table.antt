@@ -8,10 +8,10 @@ use native.Mathlib.Omega.{arith}
 use lib.Dec.{T, eqb, eqb→eq}
 use lib.ListN.{length, getD}
 use Rattle.gf2.specs.Polynomials.{power as power-under}
-use Rattle.gf2.specs.Fields.{alpha, alpha-times, product, power, width, Powers-of-alpha}
+use Rattle.gf2.specs.Fields.{alpha, top, modulus-tail, alpha-times, product, power, width, Powers-of-alpha}
 use Rattle.gf2.specs.declared.field.Field.{Field}
 use Rattle.gf2.proofs.Five.{tested, ring, field}
-use Rattle.gf2.proofs.Generators as generators
+use Rattle.gf2.proofs.Ring.{times-x-is-product}
 use Rattle.gf2.proofs.PowerLaws as powers
 
 -- the list begins with x, and each entry is alpha times the one before
@@ -43,7 +43,7 @@ rule F (x ∷ xs) h t = record { first = head F 1 x xs t .0; next = next F 1 (x 
 
 alpha-power : (F : Field) (i : ℕ) → alpha-times F (power F alpha i) ≡ power F alpha (suc i)
 alpha-power F i =
-    generators.times-x-is-product _ _ (tested F .fits) _ (tested F .back) (power F alpha i)
+    times-x-is-product (top F) (modulus-tail F) (tested F .fits) (power F alpha i)
     (powers.power-lt (width F) (product F) (ring F) (field F .two) alpha i)
     ∙ ap (λ (x : ℕ). product F x (power F alpha i)) (tested F .alpha) ∙ once
   where

@@ -25,19 +25,19 @@ all-map3 f [] h g k = tt
 all-map3 f (x ∷ xs) h g k = (f x (h .0) (g .0) (k .0), all-map3 f xs (h .1) (g .1) (k .1))
 
 module _ (k : ℕ) (m : ℕ → ℕ → ℕ) (F : IsField k m) where
-  open IsField F using (two, nodiv)
-  open IsRing (F .ring) using (closed, comm, assoc, dist, unit, nought)
+  open IsField F using (two, no-zero-divisors)
+  open IsRing (F .ring) using (closed, commutative, associative, distributive, unit, nought)
 
   pub dist-l : (a b c : ℕ) → m (a ⊕ b) c ≡ m a c ⊕ m b c
-  dist-l a b c = comm (a ⊕ b) c ∙ dist c a b ∙ ap₂ bitXor (comm c a) (comm c b)
+  dist-l a b c = commutative (a ⊕ b) c ∙ distributive c a b ∙ ap₂ bitXor (commutative c a) (commutative c b)
 
   pub nought-l : (a : ℕ) → m 0 a ≡ 0
-  nought-l a = comm 0 a ∙ nought a
+  nought-l a = commutative 0 a ∙ nought a
 
   pub power-not-0 : (x j : ℕ) → Point k x → power m x j ≢ 0
   unfolding power
   power-not-0 x zero h e = omega arith
-  power-not-0 x (suc j) h e = power-not-0 x j h (nodiv x (power m x j) (h .0) (powers.power-lt k m (F .ring) two x j) (h .1) e)
+  power-not-0 x (suc j) h e = power-not-0 x j h (no-zero-divisors x (power m x j) (h .0) (powers.power-lt k m (F .ring) two x j) (h .1) e)
 
   pub power-sum-0 : (c : ℕ → ℕ) (xs : List ℕ) (j : ℕ) → All (λ x. c x ≡ 0) xs → power-sum m c xs j ≡ 0
   unfolding power-sum
@@ -52,7 +52,7 @@ module _ (k : ℕ) (m : ℕ → ℕ → ℕ) (F : IsField k m) where
   unfolding shifted power
   one-shift c x y j =
       let P = power m y j in
-      assoc (c y) (y ⊕ x) P ∙ ap (m (c y)) (dist-l y x P) ∙ dist (c y) (m y P) (m x P)
+      associative (c y) (y ⊕ x) P ∙ ap (m (c y)) (dist-l y x P) ∙ distributive (c y) (m y P) (m x P)
       ∙ ap (bitXor (m (c y) (m y P))) (powers.swap k m (F .ring) (c y) x P)
 
   power-sum-shift : (c : ℕ → ℕ) (x : ℕ) (xs : List ℕ) (j : ℕ) → power-sum m (shifted c x) xs j ≡ power-sum m c xs (suc j) ⊕ m x (power-sum m c xs j)
@@ -61,7 +61,7 @@ module _ (k : ℕ) (m : ℕ → ℕ → ℕ) (F : IsField k m) where
   power-sum-shift c x (y ∷ xs) j =
       ap₂ bitXor (one-shift c x y j) (power-sum-shift c x xs j)
       ∙ xor4 (m (c y) (power m y (suc j))) (m x (m (c y) (power m y j))) (power-sum m c xs (suc j)) (m x (power-sum m c xs j))
-      ∙ ap (bitXor (m (c y) (power m y (suc j)) ⊕ power-sum m c xs (suc j))) (sym (dist x (m (c y) (power m y j)) (power-sum m c xs j)))
+      ∙ ap (bitXor (m (c y) (power m y (suc j)) ⊕ power-sum m c xs (suc j))) (sym (distributive x (m (c y) (power m y j)) (power-sum m c xs j)))
 
   power-sum-out : (c : ℕ → ℕ) (x : ℕ) (xs : List ℕ) (j : ℕ) → power-sum m (shifted c x) xs j ≡ power-sum m c (x ∷ xs) (suc j) ⊕ m x (power-sum m c (x ∷ xs) j)
   power-sum-out c x xs j = sym gone ∙ power-sum-shift c x (x ∷ xs) j
@@ -84,12 +84,12 @@ module _ (k : ℕ) (m : ℕ → ℕ → ℕ) (F : IsField k m) where
 
       back : (y : ℕ) → shifted c x y ≡ 0 → Point k y → y ≢ x → c y ≡ 0
       back y z q d =
-          nodiv (y ⊕ x) (c y) (xor-lt k y x (q .0) (pts .0 .0)) (low y) (λ e. d (xor-eq y x e)) (comm (y ⊕ x) (c y) ∙ (unfold shifted in z))
+          no-zero-divisors (y ⊕ x) (c y) (xor-lt k y x (q .0) (pts .0 .0)) (low y) (λ e. d (xor-eq y x e)) (commutative (y ⊕ x) (c y) ∙ (unfold shifted in z))
 
       finish : All (λ x. c x ≡ 0) xs → (c x ≡ 0) × All (λ x. c x ≡ 0) xs
       finish h =
           let e : m (c x) (power m x a) ≡ 0 = sym (xor-zero-r (m (c x) (power m x a))) ∙ ap (bitXor (m (c x) (power m x a))) (sym (power-sum-0 c xs a h)) ∙ first in
-          (nodiv (power m x a) (c x) (powers.power-lt k m (F .ring) two x a) (low x) (power-not-0 x a (pts .0)) (comm (power m x a) (c x) ∙ e), h)
+          (no-zero-divisors (power m x a) (c x) (powers.power-lt k m (F .ring) two x a) (low x) (power-not-0 x a (pts .0)) (commutative (power m x a) (c x) ∙ e), h)
         where
           first : m (c x) (power m x a) ⊕ power-sum m c xs a ≡ 0
           first = unfold power-sum in sums a (omega arith) (omega arith)

@@ -3,7 +3,7 @@ use mathlib.Core.Path.{_≡_}
 use mathlib.Core.Bool.{cond}
 use mathlib.Core.List.{List}
 use mathlib.Core.Logic.{_≢_}
-use Prim.Native.Nat.{ℕ, suc, _-_, _%_, _^_, _<_}
+use Prim.Native.Nat.{ℕ, suc, _-_, _%_, _^_, _≤_, _<_}
 use lib.Bits.{bitXor}
 use lib.Dec.{eqb}
 use lib.ListN.{length, getD}
@@ -75,17 +75,23 @@ pub record Powers-of-alpha (F : Field) (table : List ℕ) : Type 0 where
 -- what holds of the product for every width k and modulus; only the unit asks for an element
 pub record IsRing (k : ℕ) (m : ℕ → ℕ → ℕ) : Type 0 where
   pub closed : (a b : ℕ) → m a b < 2 ^ k
-  pub comm : (a b : ℕ) → m a b ≡ m b a
-  pub assoc : (a b c : ℕ) → m (m a b) c ≡ m a (m b c)
-  pub dist : (a b c : ℕ) → m a (bitXor b c) ≡ bitXor (m a b) (m a c)
+  pub commutative : (a b : ℕ) → m a b ≡ m b a
+  pub associative : (a b c : ℕ) → m (m a b) c ≡ m a (m b c)
+  pub distributive : (a b c : ℕ) → m a (bitXor b c) ≡ bitXor (m a b) (m a c)
   pub unit : (a : ℕ) → a < 2 ^ k → m 1 a ≡ a
   pub nought : (a : ℕ) → m a 0 ≡ 0
+
+-- what makes m the product of polynomials modulo x^(n+1) + p: besides the laws of a ring, x moves each power of x up by one, and x^(n+1) is p
+pub record IsPolynomialProduct (n p : ℕ) (m : ℕ → ℕ → ℕ) : Type 0 where
+  pub ring : IsRing (suc n) m
+  pub moves-up : 1 ≤ n → (i : ℕ) → i < n → m 2 (2 ^ i) ≡ 2 ^ suc i
+  pub wraps : 1 ≤ n → m 2 (2 ^ n) ≡ p
 
 pub record IsField (k : ℕ) (m : ℕ → ℕ → ℕ) : Type 0 where
   pub ring : IsRing k m
   pub two : 1 < 2 ^ k
   pub inverse : (a : ℕ) → a < 2 ^ k → a ≢ 0 → (b : ℕ) × (m a b ≡ 1)
-  pub nodiv : (a b : ℕ) → a < 2 ^ k → b < 2 ^ k → a ≢ 0 → m a b ≡ 0 → b ≡ 0
+  pub no-zero-divisors : (a b : ℕ) → a < 2 ^ k → b < 2 ^ k → a ≢ 0 → m a b ≡ 0 → b ≡ 0
 
 -- the powers 0 to 2^m - 2 of alpha are distinct and run through every element but 0; the next is 1 again
 pub record Alpha-generates (k : ℕ) (m : ℕ → ℕ → ℕ) : Type 0 where

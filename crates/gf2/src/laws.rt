@@ -2,7 +2,7 @@
 ghost use Prim.Native.Nat.{ℕ, suc, _^_, _<_};
 ghost use Rattle.gf2.specs.declared.field.Field.{Field};
 ghost use Rattle.gf2.specs.Product.{times};
-ghost use Rattle.gf2.specs.Fields.{width, product, IsRing, IsField, Alpha-generates};
+ghost use Rattle.gf2.specs.Fields.{width, product, IsPolynomialProduct, IsField, Alpha-generates};
 ghost use Rattle.gf2.specs.Polynomials.{Vandermonde, Few-roots};
 ghost use Rattle.gf2.specs.WordLaws.{Bits-of-bytes, Flipping, Distance-is-a-metric, Words-are-numbers};
 
@@ -15,7 +15,7 @@ pub fn laws_of_words()
 
 // The product of polynomials modulo x^(n+1) + p, for every n and p.
 pub fn laws_of_the_product()
-    ensures every_modulus_gives_a_ring { λ _. ⌜ ((n p : ℕ) → p < 2 ^ suc n → IsRing (suc n) (times n p)) ⌝ }
+    ensures it_is_the_product_of_polynomials { λ _. ⌜ ((n p : ℕ) → p < 2 ^ suc n → IsPolynomialProduct n p (times n p)) ⌝ }
 {}
 
 pub fn laws_of_the_five_fields()

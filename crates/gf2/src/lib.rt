@@ -3,3 +3,5 @@ pub mod bits;
 pub mod field;
 pub mod laws;
 pub mod powers;
+#[cfg(test)]
+mod tests;

@@ -1,25 +1,19 @@
-use mathlib.Core.Path.{_≡_, refl, sym, ap, ap₂, _∙_, subst}
+use mathlib.Core.Path.{_≡_, refl, sym, ap, ap₂, _∙_}
 use mathlib.Core.Bool.{Bool, true, false, cond}
 use mathlib.Core.List.{List}
-use Prim.Native.Nat.{ℕ, zero, suc, _+_, _-_, _*_, _/_, _%_, _^_, _<_, _≤_}
+use Prim.Native.Nat.{ℕ, _+_, _-_, _*_, _/_, _%_, _^_, _<_, _≤_}
 use native.Mathlib.Nat.{pow-suc, mod-lt, zero-lt-suc}
+use native.Mathlib.Numerals.{add-one}
 use native.Mathlib.Omega.{arith}
 use lib.Bits.{and-mask}
-use lib.Dec.{eqb, leb}
-use lib.ListN.{length, take, drop, getD, length-drop}
-use Rattle.std.proofs.shelf.Lists.{take-more, getD-drop}
+use lib.Dec.{leb}
+use lib.ListN.{length, take, drop, getD}
 use Rattle.std.proofs.shelf.Tests.{lt-leb}
 use Rattle.std.specs.declared.option.Option.{Option}
 use Rattle.std.specs.declared.option.Option.the-variants.{None, Some}
 use Rattle.gf2.specs.Words.{bits, number, number-behind}
-use Rattle.gf2.proofs.Numbered.{byte-bit, inside-bytes, past-bytes}
-use Rattle.gf2.proofs.Sums.{number-push}
+use Rattle.gf2.proofs.Numbered.{number-more, inside-bytes, past-bytes}
 use Rattle.gf2.proofs.bits.number.Needs as need
-
-digit : (d : ℕ) → d < 2 → d ≡ cond (eqb d 1) 1 0
-digit zero h = refl
-digit (suc zero) h = refl
-digit (suc (suc d)) h = absurd (omega arith)
 
 -- a word that ends before the bits has no such number
 ended : (w : List Bool) (s k : ℕ) → length w < s + k → None ≡ number-behind w s k
@@ -43,22 +37,15 @@ loop-done-again c =
     let bs = c .args .bytes .now in
     let s = c .args .skip in
     let j = c .loop-done .done in
-    let p = s + j in
     let o = s % 8 + j in
-    let at : p / 8 ≡ s / 8 + o / 8 = omega arith in
-    let off : p % 8 ≡ o % 8 = omega arith in
-    let h : p / 8 < length bs = omega (arith, c .if-at-bytes .left) in
-    let inside = inside-bytes bs p h in
-    let S = drop s (bits bs) in
-    let d = getD bs (s / 8 + o / 8) 0 / 2 ^ (7 - o % 8) % 2 in
-    let low : d < 2 = mod-lt (getD bs (s / 8 + o / 8) 0 / 2 ^ (7 - o % 8)) (zero-lt-suc 1) in
-    let is : c .from .result ≡ d = c .from .ensures ∙ and-mask (getD bs (s / 8 + o / 8) 0 / 2 ^ (7 - o % 8)) 1 in
-    let bit : getD S j false ≡ eqb d 1 =
-    getD-drop s (bits bs) j false ∙ byte-bit bs p h ∙ ap₂ (λ (i k : ℕ). eqb (getD bs i 0 / 2 ^ (7 - k) % 2) 1) at off in
-    let two : 2 ^ (j + 1) ≡ 2 ^ j * 2 = ap (λ (i : ℕ). 2 ^ i) (let e : j + 1 ≡ suc j = omega arith in e) ∙ pow-suc 2 j in
-    let room : j < length S = omega (arith, length-drop s (bits bs)) in (
-      ap₂ (λ (x y : ℕ). x * 2 + y) (c .loop-done .inv .0) (is ∙ digit d low ∙ ap (λ (b : Bool). cond b 1 0) (sym bit))
-          ∙ sym (number-push (take j S) (getD S j false)) ∙ ap number (sym (take-more S j false room)),
-      omega (arith, c .loop-done .inv .1, is, low, two),
-      λ _. omega arith,
-    )
+    let x = getD bs (s / 8 + o / 8) 0 / 2 ^ (7 - o % 8) in
+    let at : s / 8 + o / 8 ≡ (s + j) / 8 = omega arith in
+    let offset : o % 8 ≡ (s + j) % 8 = omega arith in
+    let h : (s + j) / 8 < length bs = omega (arith, c .if-at-bytes .left) in
+    let is : c .from .result ≡ x % 2 = c .from .ensures ∙ and-mask x 1 in
+    let low : x % 2 < 2 = mod-lt x (zero-lt-suc 1) in
+    let two : 2 ^ (j + 1) ≡ 2 ^ j * 2 = ap (λ (i : ℕ). 2 ^ i) (add-one j) ∙ pow-suc 2 j in
+    let same : x % 2 ≡ getD bs ((s + j) / 8) 0 / 2 ^ (7 - (s + j) % 8) % 2 = ap₂ (λ (i k : ℕ). getD bs i 0 / 2 ^ (7 - k) % 2) at offset in
+    let value : c .loop-done .value * 2 + c .from .result ≡ number (take j (drop s (bits bs))) * 2 + getD bs ((s + j) / 8) 0 / 2 ^ (7 - (s + j) % 8) % 2 =
+    ap₂ (λ (v b : ℕ). v * 2 + b) (c .loop-done .inv .0) (is ∙ same) in
+    (value ∙ number-more bs s j h, omega (arith, c .loop-done .inv .1, is, low, two), λ _. omega (arith, inside-bytes bs (s + j) h))

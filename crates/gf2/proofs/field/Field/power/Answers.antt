@@ -15,7 +15,7 @@ begin F a e = field F .ring .unit (power F a e) (powers.power-lt (width F) (prod
 
 end : (F : Field) (r s e : ℕ) → r < 2 ^ width F → e ≡ 0 → product F r (power F s e) ≡ r
 unfolding power-under
-end F r s e h z = ap (λ (j : ℕ). product F r (power F s j)) z ∙ field F .ring .comm r 1 ∙ field F .ring .unit r h
+end F r s e h z = ap (λ (j : ℕ). product F r (power F s j)) z ∙ field F .ring .commutative r 1 ∙ field F .ring .unit r h
 
 pub loop-left-holds : need.loop-left-holds
 loop-left-holds c = (begin (c .args .self) (c .args .a) (c .args .exponent), field (c .args .self) .two)
