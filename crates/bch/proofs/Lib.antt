@@ -1,0 +1,4 @@
+pub mod Kernel
+pub mod Decoder
+pub mod Unique
+pub mod Remainder

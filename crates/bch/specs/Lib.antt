@@ -1,0 +1,5 @@
+pub mod Code
+pub mod Elimination
+pub mod Decoding
+pub mod Checks
+pub mod Orbits
