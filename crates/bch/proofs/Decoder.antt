@@ -7,18 +7,17 @@ use Prim.Native.Nat.{ℕ, zero, suc, _+_, _^_, _≤_, _<_}
 use native.Mathlib.Omega.{arith}
 use native.Mathlib.Decide.{ℕ-discrete}
 use lib.ListN.{length}
-use lib.Dec.{T, eqb, eqb→eq, eqb-refl, leb, leb→le, le→leb}
-use lib.Bits.{bitXor, xor-comm, xor-assoc, xor-zero-r, xor-self, xor-lt}
-use Rattle.gf2.specs.Polynomials.{power, power-sum, All, Distinct, Point}
+use lib.Dec.{T, eqb, eqb→eq, leb, leb→le, le→leb}
+use lib.Bits.{bitXor, xor-zero-r, xor-self}
+use Rattle.gf2.specs.Polynomials.{power, power-sum, All, Distinct, Nonzero}
 use Rattle.bch.specs.Elimination.{against, met-all, units, Every}
 use Rattle.gf2.specs.Words.{plus, add, weight}
 use Rattle.gf2.proofs.Sums.{add-length, add-back}
-use Rattle.bch.specs.Decoding.{locator-sum, Sums-vanish, all-vanish, marks, sums-are-0, flips, decode, Answer, found, none}
+use Rattle.bch.specs.Decoding.{locator-sum, Sums-vanish, all-vanish, marks, sums-are-0, flips, decode, found, none}
 use Rattle.gf2.proofs.Ring.{_⊕_, xor4}
 use Rattle.gf2.specs.Fields.{IsField, IsRing}
 use Rattle.gf2.proofs.PowerLaws as powers
 use Rattle.gf2.proofs.Vandermonde as v
-use Rattle.gf2.proofs.Vandermonde.{all-map}
 use Rattle.bch.proofs.Kernel as ker
 use Rattle.bch.proofs.Kernel.{Member}
 
@@ -87,14 +86,14 @@ marks-are a f (false ∷ bs) d to from =
 
 module _ (k : ℕ) (m : ℕ → ℕ → ℕ) (F : IsField k m) (inv : ℕ → ℕ)
     (inverse : (a : ℕ) → a < 2 ^ k → a ≢ 0 → m a (inv a) ≡ 1)
-    (a : ℕ → ℕ) (N : ℕ) (points : (i : ℕ) → i < N → Point k (a i)) (apart : (i j : ℕ) → i < j → j < N → a i ≢ a j) where
-  open IsField F using (two, no-zero-divisors)
-  open IsRing (F .ring) using (closed, commutative, associative, distributive, unit, nought)
+    (a : ℕ → ℕ) (N : ℕ) (points : (i : ℕ) → i < N → Nonzero k (a i)) (apart : (i j : ℕ) → i < j → j < N → a i ≢ a j) where
+  open IsField F using (nontrivial, no-zero-divisors)
+  open IsRing (F .ring) using (closed, commutative, associative, distributive, unit, zero-product)
 
   locator-sum-is-power-sum : (w : List Bool) (j : ℕ) → locator-sum m a w j ≡ power-sum m (λ x. 1) (locs a w) j
   unfolding locator-sum power-sum locs
   locator-sum-is-power-sum [] j = refl
-  locator-sum-is-power-sum (true ∷ bs) j = ap₂ bitXor (sym (unit (power m (a (length bs)) j) (powers.power-lt k m (F .ring) two (a (length bs)) j))) (locator-sum-is-power-sum bs j)
+  locator-sum-is-power-sum (true ∷ bs) j = ap₂ bitXor (sym (unit (power m (a (length bs)) j) (powers.power-lt k m (F .ring) nontrivial (a (length bs)) j))) (locator-sum-is-power-sum bs j)
   locator-sum-is-power-sum (false ∷ bs) j = locator-sum-is-power-sum bs j
 
   pub locator-sum-add : (w u : List Bool) (j : ℕ) → length w ≡ length u → locator-sum m a (add w u) j ≡ locator-sum m a w j ⊕ locator-sum m a u j
@@ -120,8 +119,8 @@ module _ (k : ℕ) (m : ℕ → ℕ → ℕ) (F : IsField k m) (inv : ℕ → �
     where
       zeros : All (λ x. _≡_ {A = ℕ} 1 0) (locs a w)
       zeros =
-          v.vandermonde k m F (locs a w) (λ x. 1) 1 (locs-all a (Point k) w (λ i l. points i (omega arith)))
-          (locs-apart a w (λ i j l q. apart i j l (omega arith))) (λ x. two)
+          v.vandermonde k m F (locs a w) (λ x. 1) 1 (locs-all a (Nonzero k) w (λ i l. points i (omega arith)))
+          (locs-apart a w (λ i j l q. apart i j l (omega arith))) (λ x. nontrivial)
           (λ j l u. sym (locator-sum-is-power-sum w j) ∙ code j l (omega (arith, locs-length a w)))
 
       ends : (xs : List ℕ) → length xs ≡ weight w → All (λ x. _≡_ {A = ℕ} 1 0) xs → weight w ≡ 0
@@ -176,8 +175,8 @@ module _ (k : ℕ) (m : ℕ → ℕ → ℕ) (F : IsField k m) (inv : ℕ → �
       agree j l u =
           sym (xor-zero-r (locator-sum m a r j)) ∙ ap (bitXor (locator-sum m a r j)) (sym (code j l u)) ∙ sym (locator-sum-add r c j (sym same)) ∙ locator-sum-is-power-sum e j
 
-      pts : All (Point k) (locs a e)
-      pts = locs-all a (Point k) e (λ i l. points i (omega (arith, el)))
+      pts : All (Nonzero k) (locs a e)
+      pts = locs-all a (Nonzero k) e (λ i l. points i (omega (arith, el)))
 
       ap′ : Distinct (locs a e)
       ap′ = locs-apart a e (λ i j l q. apart i j l (omega (arith, el)))

@@ -7,16 +7,16 @@ use Prim.Native.Nat.{ℕ, zero, suc, _+_, _^_, _≤_, _<_}
 use native.Mathlib.Omega.{arith}
 use native.Mathlib.Decide.{ℕ-discrete}
 use lib.ListN.{length}
-use lib.Dec.{T, eqb, eqb→eq, eqb-refl}
+use lib.Dec.{T, eqb, eqb→eq}
 use lib.Pow.{pow-pos}
-use lib.Bits.{bitXor, xor-comm, xor-assoc, xor-zero-r, xor-self, xor-lt}
-use Rattle.gf2.specs.Polynomials.{power, power-sum, All, Distinct, Point}
+use lib.Bits.{bitXor, xor-assoc, xor-zero-r, xor-self, xor-lt}
+use Rattle.gf2.specs.Polynomials.{power, power-sum, All, Distinct, Nonzero}
 use Rattle.bch.specs.Elimination.{against, add-scaled, cleared, met-one, met-all, units, Every}
 use Rattle.gf2.proofs.Ring.{_⊕_, xor4}
 use Rattle.gf2.specs.Fields.{IsField, IsRing}
 use Rattle.gf2.proofs.PowerLaws as powers
 use Rattle.gf2.proofs.Vandermonde as v
-use Rattle.gf2.proofs.Vandermonde.{xor-eq, all-map, all-map3}
+use Rattle.gf2.proofs.Vandermonde.{xor-eq, all-map}
 
 abbrev pub Member : ℕ → List ℕ → Type 0
 Member y [] = ⊥
@@ -30,8 +30,8 @@ dot m (a ∷ cs) (p ∷ ps) s i = bitXor (m a (against m p s i)) (dot m cs ps s 
 
 module _ (k : ℕ) (m : ℕ → ℕ → ℕ) (F : IsField k m) (inv : ℕ → ℕ)
     (inverse : (a : ℕ) → a < 2 ^ k → a ≢ 0 → m a (inv a) ≡ 1) where
-  open IsField F using (two, no-zero-divisors)
-  open IsRing (F .ring) using (closed, commutative, associative, distributive, unit, nought)
+  open IsField F using (nontrivial, no-zero-divisors)
+  open IsRing (F .ring) using (closed, commutative, associative, distributive, unit, zero-product)
 
   against-lt : (p : List ℕ) (s : ℕ → ℕ) (i : ℕ) → against m p s i < 2 ^ k
   unfolding against
@@ -40,7 +40,7 @@ module _ (k : ℕ) (m : ℕ → ℕ → ℕ) (F : IsField k m) (inv : ℕ → �
 
   against-add-scaled : (a : ℕ) (p q : List ℕ) (s : ℕ → ℕ) (i : ℕ) → against m (add-scaled m a p q) s i ≡ m a (against m p s i) ⊕ against m q s i
   unfolding against add-scaled
-  against-add-scaled a [] q s i = ap (λ (y : ℕ). y ⊕ against m q s i) (sym (nought a))
+  against-add-scaled a [] q s i = ap (λ (y : ℕ). y ⊕ against m q s i) (sym (zero-product a))
   against-add-scaled a (c ∷ p) [] s i =
       ap₂ bitXor (associative a c (s i)) (against-add-scaled a p [] s (suc i) ∙ xor-zero-r (m a (against m p s (suc i))))
       ∙ sym (distributive a (m c (s i)) (against m p s (suc i))) ∙ sym (xor-zero-r (m a (m c (s i) ⊕ against m p s (suc i))))
@@ -90,7 +90,7 @@ module _ (k : ℕ) (m : ℕ → ℕ → ℕ) (F : IsField k m) (inv : ℕ → �
             → Kept (a ∷ cs) (p ∷ ps) (elim b [ true ↦ p ∷ met-one m inv s i ps | false ↦ cleared m inv s i p ps ])
         split true t ih =
             let z : X ≡ 0 = eqb→eq X 0 (subst T (sym t) tt) in
-            let h = ih (sym (ap (λ (y : ℕ). m a y ⊕ dot m cs ps s i) z ∙ ap (λ (y : ℕ). y ⊕ dot m cs ps s i) (nought a)) ∙ e) in
+            let h = ih (sym (ap (λ (y : ℕ). m a y ⊕ dot m cs ps s i) z ∙ ap (λ (y : ℕ). y ⊕ dot m cs ps s i) (zero-product a)) ∙ e) in
             (a ∷ h .0, λ r j. ap (bitXor (m a (against m p r j))) (h .1 r j))
         split false t ih =
             let z : X ≢ 0 = λ y. subst T t (subst (λ (y : ℕ). T (eqb y 0)) (sym y) tt) in
@@ -155,7 +155,7 @@ module _ (k : ℕ) (m : ℕ → ℕ → ℕ) (F : IsField k m) (inv : ℕ → �
   met-all-keeps s P stable (suc n) i ps h = met-all-keeps s P stable n (suc i) (met-one m inv s i ps) (keeps s i P stable ps h)
 
   zero-stable : (s : ℕ → ℕ) (i a : ℕ) (p q : List ℕ) → against m p s i ≡ 0 → against m q s i ≡ 0 → against m (add-scaled m a p q) s i ≡ 0
-  zero-stable s i a p q hp hq = against-add-scaled a p q s i ∙ ap₂ (λ (x y : ℕ). m a x ⊕ y) hp hq ∙ ap (λ (x : ℕ). x ⊕ 0) (nought a)
+  zero-stable s i a p q hp hq = against-add-scaled a p q s i ∙ ap₂ (λ (x y : ℕ). m a x ⊕ y) hp hq ∙ ap (λ (x : ℕ). x ⊕ 0) (zero-product a)
 
   met-all-meets : (s : ℕ → ℕ) (n i : ℕ) (ps : List (List ℕ)) (j : ℕ) → i ≤ j → j < i + n → Every (λ p. against m p s j ≡ 0) (met-all m inv s n i ps)
   unfolding met-all
@@ -214,7 +214,7 @@ module _ (k : ℕ) (m : ℕ → ℕ → ℕ) (F : IsField k m) (inv : ℕ → �
   against-nil : (p : List ℕ) (i : ℕ) → against m p (λ j. 0) i ≡ 0
   unfolding against
   against-nil [] i = refl
-  against-nil (c ∷ p) i = ap₂ bitXor (nought c) (against-nil p (suc i))
+  against-nil (c ∷ p) i = ap₂ bitXor (zero-product c) (against-nil p (suc i))
 
   -- the value at x
   abbrev pub ev : List ℕ → ℕ → ℕ
@@ -222,7 +222,7 @@ module _ (k : ℕ) (m : ℕ → ℕ → ℕ) (F : IsField k m) (inv : ℕ → �
 
   against-power : (p : List ℕ) (x i : ℕ) → against m p (power m x) (suc i) ≡ m x (against m p (power m x) i)
   unfolding against power
-  against-power [] x i = sym (nought x)
+  against-power [] x i = sym (zero-product x)
   against-power (c ∷ p) x i = ap₂ bitXor (powers.swap k m (F .ring) c x (power m x i)) (against-power p x (suc i)) ∙ sym (distributive x (m c (power m x i)) (against m p (power m x) (suc i)))
 
   against-value : (p : List ℕ) (x i : ℕ) → against m p (power m x) i ≡ m (ev p x) (power m x i)
@@ -235,7 +235,7 @@ module _ (k : ℕ) (m : ℕ → ℕ → ℕ) (F : IsField k m) (inv : ℕ → �
   exchange p [] i = against-nil p i
   exchange p (x ∷ xs) i =
       against-sum p (λ j. m 1 (power m x j)) (power-sum m (λ x. 1) xs) i
-      ∙ ap₂ bitXor (against-cong p (λ j. m 1 (power m x j)) (power m x) i (λ j a b. unit (power m x j) (powers.power-lt k m (F .ring) two x j)) ∙ against-value p x i) (exchange p xs i)
+      ∙ ap₂ bitXor (against-cong p (λ j. m 1 (power m x j)) (power m x) i (λ j a b. unit (power m x j) (powers.power-lt k m (F .ring) nontrivial x j)) ∙ against-value p x i) (exchange p xs i)
 
   -- ---- the locator: the polynomial whose roots are the points
   ev-cons : (c : ℕ) (p : List ℕ) (z : ℕ) → c < 2 ^ k → ev (c ∷ p) z ≡ c ⊕ m z (ev p z)
@@ -263,7 +263,7 @@ module _ (k : ℕ) (m : ℕ → ℕ → ℕ) (F : IsField k m) (inv : ℕ → �
 
   times-linear-value : (x c : ℕ) (p : List ℕ) (z : ℕ) → c < 2 ^ k → Low p → ev (times-linear x c p) z ≡ c ⊕ m (x ⊕ z) (ev p z)
   unfolding times-linear Low
-  times-linear-value x c [] z h low = ev-cons c [] z h ∙ ap (bitXor c) (ap (m z) (ev-nil z) ∙ nought z ∙ sym (ap (m (x ⊕ z)) (ev-nil z) ∙ nought (x ⊕ z)))
+  times-linear-value x c [] z h low = ev-cons c [] z h ∙ ap (bitXor c) (ap (m z) (ev-nil z) ∙ zero-product z ∙ sym (ap (m (x ⊕ z)) (ev-nil z) ∙ zero-product (x ⊕ z)))
   times-linear-value x c (d ∷ p) z h low =
       let w = x ⊕ z in
       let E = ev p z in
@@ -281,7 +281,7 @@ module _ (k : ℕ) (m : ℕ → ℕ → ℕ) (F : IsField k m) (inv : ℕ → �
 
   locator-low : (xs : List ℕ) → Low (locator xs)
   unfolding locator Low
-  locator-low [] = (two, tt)
+  locator-low [] = (nontrivial, tt)
   locator-low (x ∷ xs) = times-linear-low x 0 (locator xs) (pow-pos k) (locator-low xs)
 
   locator-length : (xs : List ℕ) → length (locator xs) ≡ suc (length xs)
@@ -297,7 +297,7 @@ module _ (k : ℕ) (m : ℕ → ℕ → ℕ) (F : IsField k m) (inv : ℕ → �
   locator-roots [] = tt
   locator-roots (x ∷ xs) = (
     locator-value x xs x ∙ ap (λ (y : ℕ). m y (ev (locator xs) x)) (xor-self x) ∙ v.nought-l k m F (ev (locator xs) x),
-    all-map (λ y e. locator-value x xs y ∙ ap (m (x ⊕ y)) e ∙ nought (x ⊕ y)) xs (locator-roots xs),
+    all-map (λ y e. locator-value x xs y ∙ ap (m (x ⊕ y)) e ∙ zero-product (x ⊕ y)) xs (locator-roots xs),
   )
 
   locator-only : (xs : List ℕ) (y : ℕ) → y < 2 ^ k → All (λ x. x < 2 ^ k) xs → ev (locator xs) y ≡ 0 → Member y xs
@@ -305,7 +305,7 @@ module _ (k : ℕ) (m : ℕ → ℕ → ℕ) (F : IsField k m) (inv : ℕ → �
   locator-only [] y hy h e = let z : _≡_ {A = ℕ} 1 0 = sym const ∙ e in omega arith
     where
       const : ev (locator []) y ≡ 1
-      const = ev-cons 1 [] y two ∙ ap (bitXor 1) (ap (m y) (ev-nil y) ∙ nought y)
+      const = ev-cons 1 [] y nontrivial ∙ ap (bitXor 1) (ap (m y) (ev-nil y) ∙ zero-product y)
   locator-only (x ∷ xs) y hy h e = go (λ z. locator-only xs y hy (h .1) z) (ℕ-discrete x y)
     where
       go : (ev (locator xs) y ≡ 0 → Member y xs) → Dec (x ≡ y) → (x ≡ y) ⊎ Member y xs
@@ -315,7 +315,7 @@ module _ (k : ℕ) (m : ℕ → ℕ → ℕ) (F : IsField k m) (inv : ℕ → �
           (λ z. q (xor-eq x y z)) (sym (locator-value x xs y) ∙ e)))
 
   -- ---- the theorem
-  module _ (s : ℕ → ℕ) (t : ℕ) (xs : List ℕ) (pts : All (Point k) xs) (apart : Distinct xs) (few : length xs ≤ t)
+  module _ (s : ℕ → ℕ) (t : ℕ) (xs : List ℕ) (pts : All (Nonzero k) xs) (apart : Distinct xs) (few : length xs ≤ t)
       (agree : (j : ℕ) → 1 ≤ j → j ≤ t + t → s j ≡ power-sum m (λ x. 1) xs j) where
     abbrev pub left : List (List ℕ)
     left = met-all m inv s t 1 (units (suc t))
@@ -331,7 +331,7 @@ module _ (k : ℕ) (m : ℕ → ℕ → ℕ) (F : IsField k m) (inv : ℕ → �
     unfolding dot
     dot-0 [] ps r j h = refl
     dot-0 (c ∷ cs) [] r j h = refl
-    dot-0 (c ∷ cs) (p ∷ ps) r j h = ap₂ bitXor (ap (m c) (h .0) ∙ nought c) (dot-0 cs ps r j (h .1))
+    dot-0 (c ∷ cs) (p ∷ ps) r j h = ap₂ bitXor (ap (m c) (h .0) ∙ zero-product c) (dot-0 cs ps r j (h .1))
 
     -- a point at which all are 0 that are left is an error point
     pub only : (y : ℕ) → y < 2 ^ k → Every (λ p. ev p y ≡ 0) left → Member y xs

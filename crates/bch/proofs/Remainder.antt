@@ -1,15 +1,14 @@
 -- The data with its remainder behind it is 0 at every root of the modulus.
-use mathlib.Core.Path.{_≡_, refl, sym, ap, ap₂, _∙_, subst}
+use mathlib.Core.Path.{_≡_, refl, sym, ap, ap₂, _∙_}
 use mathlib.Core.Bool.{Bool, true, false, cond}
 use mathlib.Core.List.{List, [], _∷_, _++_}
-use mathlib.Core.Logic.{_≢_}
-use Prim.Native.Nat.{ℕ, zero, suc, _+_, _-_, _*_, _/_, _%_, _^_, _≤_, _<_}
-use native.Mathlib.Nat.{mod-lt, mod-eq-of-lt, mul-mod-left, mul-div-cancel, zero-lt-suc, pow-suc, le-refl, zero-div, zero-mod, div-one}
+use Prim.Native.Nat.{ℕ, zero, suc, _+_, _-_, _*_, _/_, _%_, _^_, _<_}
+use native.Mathlib.Nat.{mod-lt, mul-mod-left, mul-div-cancel, zero-lt-suc, pow-suc, div-one}
 use native.Mathlib.Omega.{arith}
 use lib.Arith.{lt-one}
 use lib.ListN.{length, length-append}
 use lib.Dec.{eqb}
-use lib.Pow.{pow-pos, pow-lt, shr-shr}
+use lib.Pow.{pow-pos, shr-shr}
 use lib.Bits.{bitXor, xor-comm, xor-assoc, xor-zero-r, xor-self, xor-lt, xor-shr, xor-mod}
 use Rattle.gf2.specs.Product.{times-x, if-set}
 use Rattle.gf2.specs.Polynomials.{power}
@@ -20,12 +19,11 @@ use Rattle.bch.specs.Code.{word-value}
 use Rattle.gf2.proofs.Ring as ring
 use Rattle.gf2.proofs.Ring.{_⊕_, xor4, half-lt, dig, if-set-add}
 use Rattle.gf2.specs.Fields.{IsField, IsRing}
-use Rattle.gf2.proofs.Vandermonde as v
 use Rattle.gf2.proofs.PowerLaws as powers
 
 module _ (k : ℕ) (m : ℕ → ℕ → ℕ) (F : IsField k m) (z : ℕ) where
-  open IsField F using (two, no-zero-divisors)
-  open IsRing (F .ring) using (closed, commutative, associative, distributive, unit, nought)
+  open IsField F using (nontrivial, no-zero-divisors)
+  open IsRing (F .ring) using (closed, commutative, associative, distributive, unit, zero-product)
 
   digits-value-add : (i a b : ℕ) → digits-value m z i (a ⊕ b) ≡ digits-value m z i a ⊕ digits-value m z i b
   unfolding digits-value
@@ -38,7 +36,7 @@ module _ (k : ℕ) (m : ℕ → ℕ → ℕ) (F : IsField k m) (z : ℕ) where
   digits-value-zero : (i : ℕ) → digits-value m z i 0 ≡ 0
   unfolding digits-value
   digits-value-zero zero = refl
-  digits-value-zero (suc i) = ap (λ (x : ℕ). m z x ⊕ 0) (digits-value-zero i) ∙ ap (λ (x : ℕ). x ⊕ 0) (nought z)
+  digits-value-zero (suc i) = ap (λ (x : ℕ). m z x ⊕ 0) (digits-value-zero i) ∙ ap (λ (x : ℕ). x ⊕ 0) (zero-product z)
 
   digits-value-more : (i r : ℕ) → r < 2 ^ i → digits-value m z (suc i) r ≡ digits-value m z i r
   unfolding digits-value
@@ -50,14 +48,14 @@ module _ (k : ℕ) (m : ℕ → ℕ → ℕ) (F : IsField k m) (z : ℕ) where
   digits-value-double i r = ap₂ (λ (x y : ℕ). m z (digits-value m z i x) ⊕ if-set y 1) (mul-div-cancel r (zero-lt-suc 1)) (mul-mod-left r 2) ∙ xor-zero-r (m z (digits-value m z i r))
 
   digits-value-top : (i : ℕ) → digits-value m z (suc i) (2 ^ i) ≡ power m z i
-  digits-value-top zero = unfold digits-value power in (ap (λ (x : ℕ). x ⊕ 1) (nought z))
+  digits-value-top zero = unfold digits-value power in (ap (λ (x : ℕ). x ⊕ 1) (zero-product z))
   digits-value-top (suc i) = ap (digits-value m z (suc (suc i))) (pow-suc 2 i) ∙ digits-value-double (suc i) (2 ^ i) ∙ ap (m z) (digits-value-top i) ∙ unfold power in refl
 
   -- the top digit apart
   digits-value-split : (i r : ℕ) → digits-value m z (suc i) r ≡ cond (eqb (r / 2 ^ i % 2) 1) (power m z i) 0 ⊕ digits-value m z i r
   unfolding digits-value power
   digits-value-split zero r =
-      ap (λ (y : ℕ). y ⊕ if-set (r % 2) 1) (nought z) ∙ digit (r % 2) (dig r) ∙ ap (λ (y : ℕ). cond (eqb (y % 2) 1) 1 0 ⊕ 0) (sym (div-one r))
+      ap (λ (y : ℕ). y ⊕ if-set (r % 2) 1) (zero-product z) ∙ digit (r % 2) (dig r) ∙ ap (λ (y : ℕ). cond (eqb (y % 2) 1) 1 0 ⊕ 0) (sym (div-one r))
     where
       digit : (d : ℕ) → d < 2 → if-set d 1 ≡ cond (eqb d 1) 1 0 ⊕ 0
       digit zero h = refl
@@ -72,14 +70,14 @@ module _ (k : ℕ) (m : ℕ → ℕ → ℕ) (F : IsField k m) (z : ℕ) where
     where
       push : (b : Bool) → m z (cond b (power m z i) 0) ≡ cond b (m z (power m z i)) 0
       push true = refl
-      push false = nought z
+      push false = zero-product z
 
   digits-value-if-set : (i d r : ℕ) → digits-value m z i (if-set d r) ≡ if-set d (digits-value m z i r)
   digits-value-if-set i zero r = digits-value-zero i
   digits-value-if-set i (suc d) r = refl
 
   product-if-set : (d r : ℕ) → m z (if-set d r) ≡ if-set d (m z r)
-  product-if-set zero r = nought z
+  product-if-set zero r = zero-product z
   product-if-set (suc d) r = refl
 
   module _ (n g : ℕ) (hg : g < 2 ^ suc n) (root : digits-value m z (suc n) g ≡ power m z (suc n)) where
@@ -117,18 +115,18 @@ module _ (k : ℕ) (m : ℕ → ℕ → ℕ) (F : IsField k m) (z : ℕ) where
       where
         bit : (d : ℕ) → if-set d 1 < 2 ^ k
         bit zero = pow-pos k
-        bit (suc d) = two
+        bit (suc d) = nontrivial
 
     turn : (b : Bool) (P Q : ℕ) → m P (cond b Q 0) ≡ m Q (cond b P 0)
     turn true P Q = commutative P Q
-    turn false P Q = nought P ∙ sym (nought Q)
+    turn false P Q = zero-product P ∙ sym (zero-product Q)
 
     remainder-value : (d : List Bool) (r : ℕ) → r < 2 ^ suc n
         → digits-value m z (suc n) (remainder n g r d) ≡ m (power m z (length d)) (digits-value m z (suc n) r) ⊕ m (power m z (suc n)) (word-value m z d)
     unfolding remainder word-value power
     remainder-value [] r h =
         let V = digits-value m z (suc n) r in
-        sym (ap₂ bitXor (unit V (digits-value-lt (suc n) r)) (nought (power m z (suc n))) ∙ xor-zero-r V)
+        sym (ap₂ bitXor (unit V (digits-value-lt (suc n) r)) (zero-product (power m z (suc n))) ∙ xor-zero-r V)
     remainder-value (b ∷ bs) r h =
         let P = power m z (length bs) in
         let Q = power m z (suc n) in
@@ -145,7 +143,7 @@ module _ (k : ℕ) (m : ℕ → ℕ → ℕ) (F : IsField k m) (z : ℕ) where
     -- the remainder's bits as a word
     word-value-append : (d w : List Bool) → word-value m z (d ++ w) ≡ m (power m z (length w)) (word-value m z d) ⊕ word-value m z w
     unfolding word-value
-    word-value-append [] w = ap (λ (y : ℕ). y ⊕ word-value m z w) (sym (nought (power m z (length w))))
+    word-value-append [] w = ap (λ (y : ℕ). y ⊕ word-value m z w) (sym (zero-product (power m z (length w))))
     word-value-append (b ∷ d) w =
         let L = power m z (length w) in
         ap₂ bitXor (ap (λ (i : ℕ). cond b (power m z i) 0) (length-append d w) ∙ bit b) (word-value-append d w)
@@ -153,8 +151,8 @@ module _ (k : ℕ) (m : ℕ → ℕ → ℕ) (F : IsField k m) (z : ℕ) where
         ∙ ap (λ (y : ℕ). y ⊕ word-value m z w) (sym (distributive L (cond b (power m z (length d)) 0) (word-value m z d)))
       where
         bit : (b : Bool) → cond b (power m z (length d + length w)) 0 ≡ m (power m z (length w)) (cond b (power m z (length d)) 0)
-        bit true = powers.power-add k m (F .ring) two z (length d) (length w) ∙ commutative (power m z (length d)) (power m z (length w))
-        bit false = sym (nought (power m z (length w)))
+        bit true = powers.power-add k m (F .ring) nontrivial z (length d) (length w) ∙ commutative (power m z (length d)) (power m z (length w))
+        bit false = sym (zero-product (power m z (length w)))
 
     bits-value : (i r : ℕ) → word-value m z (bits-of i r) ≡ digits-value m z i r
     unfolding word-value bits-of
@@ -169,5 +167,5 @@ module _ (k : ℕ) (m : ℕ → ℕ → ℕ) (F : IsField k m) (z : ℕ) where
         word-value-append d (bits-of (suc n) R)
         ∙ ap₂ (λ (i y : ℕ). m (power m z i) (word-value m z d) ⊕ y) (bits-of-length (suc n) R)
         (bits-value (suc n) R ∙ remainder-value d 0 (pow-pos (suc n)) ∙ ap (λ (y : ℕ). m (power m z (length d)) y ⊕ X) (digits-value-zero (suc n))
-        ∙ ap (λ (y : ℕ). y ⊕ X) (nought (power m z (length d))))
+        ∙ ap (λ (y : ℕ). y ⊕ X) (zero-product (power m z (length d))))
         ∙ xor-self X

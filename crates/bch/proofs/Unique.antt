@@ -3,13 +3,13 @@ use mathlib.Core.Path.{_≡_, refl, sym, ap, ap₂, _∙_, subst}
 use mathlib.Core.Bool.{Bool, true, false, cond}
 use mathlib.Core.List.{List, [], _∷_, _++_, map}
 use mathlib.Core.Logic.{_≢_}
-use Prim.Native.Nat.{ℕ, zero, suc, _+_, _*_, _/_, _%_, _^_, _≤_, _<_}
-use native.Mathlib.Nat.{div-add-mod', add-zero, add-suc, zero-add, suc-add, suc-mul, zero-mul, mod-lt}
+use Prim.Native.Nat.{ℕ, zero, suc, _+_, _%_, _^_, _≤_, _<_}
+use native.Mathlib.Nat.{zero-add}
 use native.Mathlib.Omega.{arith}
 use native.Mathlib.Decide.{decLt}
 use lib.ListN.{length}
-use lib.Dec.{T, eqb, ltb, eqb→eq, eqb-refl, ltb→lt}
-use lib.Bits.{bitXor, xor-comm, xor-assoc, xor-zero-r, xor-self, xor-lt}
+use lib.Dec.{T, eqb, ltb, eqb-refl, ltb→lt}
+use lib.Bits.{bitXor, xor-comm, xor-assoc, xor-zero-r, xor-self}
 use lib.Pow.{pow-pos}
 use Rattle.gf2.specs.Polynomials.{power, value, All, Distinct, Element}
 use Rattle.gf2.specs.Words.{weight}
@@ -41,16 +41,16 @@ cond-r true b t = t
 cond-r false b t = absurd t
 
 module _ (k : ℕ) (m : ℕ → ℕ → ℕ) (F : IsField k m) where
-  open IsField F using (two, no-zero-divisors)
-  open IsRing (F .ring) using (closed, commutative, associative, distributive, unit, nought)
+  open IsField F using (nontrivial, no-zero-divisors)
+  open IsRing (F .ring) using (closed, commutative, associative, distributive, unit, zero-product)
 
   bit-low : (b : Bool) → cond b 1 0 < 2 ^ k
-  bit-low true = two
+  bit-low true = nontrivial
   bit-low false = pow-pos k
 
   bit-mul : (b : Bool) (P : ℕ) → P < 2 ^ k → m P (cond b 1 0) ≡ cond b P 0
   bit-mul true P h = commutative P 1 ∙ unit P h
-  bit-mul false P h = nought P
+  bit-mul false P h = zero-product P
 
   low-first-value : (bs : List Bool) (cs : List ℕ) (z : ℕ) → All (Element k) cs → value m (low-first bs cs) z ≡ m (power m z (length bs)) (value m cs z) ⊕ word-value m z bs
   unfolding low-first word-value value power
@@ -61,7 +61,7 @@ module _ (k : ℕ) (m : ℕ → ℕ → ℕ) (F : IsField k m) where
       let A = cond b P 0 in
       low-first-value bs (cond b 1 0 ∷ cs) z (bit-low b, h)
       ∙ ap (λ (y : ℕ). y ⊕ word-value m z bs)
-      (distributive P (cond b 1 0) (m z E) ∙ ap₂ bitXor (bit-mul b P (powers.power-lt k m (F .ring) two z (length bs))) (sym (associative P z E) ∙ ap (λ (y : ℕ). m y E) (commutative P z))
+      (distributive P (cond b 1 0) (m z E) ∙ ap₂ bitXor (bit-mul b P (powers.power-lt k m (F .ring) nontrivial z (length bs))) (sym (associative P z E) ∙ ap (λ (y : ℕ). m y E) (commutative P z))
       ∙ xor-comm A (m (m z P) E))
       ∙ xor-assoc (m (m z P) E) A (word-value m z bs)
 
@@ -83,19 +83,19 @@ module _ (k : ℕ) (m : ℕ → ℕ → ℕ) (F : IsField k m) where
   no-bits (false ∷ bs) zs low apart h e = no-bits bs zs low apart (omega arith) e
   no-bits (true ∷ bs) zs low apart h e =
       absurd
-      (omega (arith, few-roots k m F (low-first bs (1 ∷ [])) zs (low-first-low bs (1 ∷ []) (two, tt)) (some-bit bs (1 ∷ []) one-is-not-0) low apart (all-map same zs e), low-first-length bs (1 ∷ [])))
+      (omega (arith, few-roots k m F (low-first bs (1 ∷ [])) zs (low-first-low bs (1 ∷ []) (nontrivial, tt)) (some-bit bs (1 ∷ []) one-is-not-0) low apart (all-map same zs e), low-first-length bs (1 ∷ [])))
     where
       one-is-not-0 : All (λ c. c ≡ 0) (1 ∷ []) → ⊥
       one-is-not-0 q = let z : _≡_ {A = ℕ} 1 0 = q .0 in omega arith
 
       same : (z : ℕ) → word-value m z (true ∷ bs) ≡ 0 → value m (low-first bs (1 ∷ [])) z ≡ 0
       same z e =
-          low-first-value bs (1 ∷ []) z (two, tt)
+          low-first-value bs (1 ∷ []) z (nontrivial, tt)
           ∙ ap (λ (y : ℕ). m (power m z (length bs)) y ⊕ word-value m z bs) (constant z)
-          ∙ ap (λ (y : ℕ). y ⊕ word-value m z bs) (commutative (power m z (length bs)) 1 ∙ unit (power m z (length bs)) (powers.power-lt k m (F .ring) two z (length bs))) ∙ e
+          ∙ ap (λ (y : ℕ). y ⊕ word-value m z bs) (commutative (power m z (length bs)) 1 ∙ unit (power m z (length bs)) (powers.power-lt k m (F .ring) nontrivial z (length bs))) ∙ e
         where
           constant : (z : ℕ) → value m (1 ∷ []) z ≡ 1
-          constant z = unfold value in (ap (bitXor 1) (nought z))
+          constant z = unfold value in (ap (bitXor 1) (zero-product z))
 
   -- squares
   square : (a b : ℕ) → m (a ⊕ b) (a ⊕ b) ≡ m a a ⊕ m b b
@@ -106,12 +106,12 @@ module _ (k : ℕ) (m : ℕ → ℕ → ℕ) (F : IsField k m) where
 
   word-value-square : (z : ℕ) (w : List Bool) → word-value m (m z z) w ≡ m (word-value m z w) (word-value m z w)
   unfolding word-value
-  word-value-square z [] = sym (nought 0)
+  word-value-square z [] = sym (zero-product 0)
   word-value-square z (b ∷ bs) = ap₂ bitXor (bit b) (word-value-square z bs) ∙ sym (square (cond b (power m z (length bs)) 0) (word-value m z bs))
     where
       bit : (b : Bool) → cond b (power m (m z z) (length bs)) 0 ≡ m (cond b (power m z (length bs)) 0) (cond b (power m z (length bs)) 0)
-      bit true = powers.power-product k m (F .ring) two z z (length bs)
-      bit false = sym (nought 0)
+      bit true = powers.power-product k m (F .ring) nontrivial z z (length bs)
+      bit false = sym (zero-product 0)
 
   module _ (x N : ℕ) (back : power m x N ≡ 1) where
     pub twice-roots : (w : List Bool) (n e : ℕ) → word-value m (power m x e) w ≡ 0 → All (λ d. word-value m (power m x d) w ≡ 0) (twice N n e)
@@ -120,7 +120,7 @@ module _ (k : ℕ) (m : ℕ → ℕ → ℕ) (F : IsField k m) where
     twice-roots w (suc n) e h = (
       h,
       twice-roots w n ((e + e) % N)
-          (ap (λ (y : ℕ). word-value m y w) (powers.power-round k m (F .ring) two x N back (e + e) ∙ powers.power-add k m (F .ring) two x e e) ∙ word-value-square (power m x e) w ∙ ap (λ (y : ℕ). m y y) h ∙ nought 0),
+          (ap (λ (y : ℕ). word-value m y w) (powers.power-round k m (F .ring) nontrivial x N back (e + e) ∙ powers.power-add k m (F .ring) nontrivial x e e) ∙ word-value-square (power m x e) w ∙ ap (λ (y : ℕ). m y y) h ∙ zero-product 0),
     )
 
   pub all-append : (P : ℕ → Type 0) (ds es : List ℕ) → All P ds → All P es → All P (ds ++ es)

@@ -1,9 +1,8 @@
 -- The check bits: the remainder of the data's polynomial times x^(n+1) by x^(n+1) + g, kept as a number.
-use mathlib.Core.Bool.{Bool, true, false, cond}
+use mathlib.Core.Bool.{Bool, cond}
 use mathlib.Core.List.{List, [], _∷_}
-use Prim.Native.Nat.{ℕ, zero, suc, _*_, _/_, _%_, _^_}
+use Prim.Native.Nat.{ℕ, zero, suc, _/_, _%_, _^_}
 use lib.Bits.{bitXor}
-use lib.Dec.{eqb}
 use Rattle.gf2.specs.Product.{times-x, if-set}
 
 unfoldable pub remainder : ℕ → ℕ → ℕ → List Bool → ℕ

@@ -5,9 +5,9 @@ use mathlib.Core.List.{List, [], _∷_}
 use Prim.Native.Nat.{ℕ, _+_, _≤_}
 use lib.Bits.{bitXor}
 use lib.ListN.{length}
+use Rattle.gf2.specs.Polynomials.{power as power-under}
 use Rattle.gf2.specs.declared.field.Field.{Field}
 use Rattle.gf2.specs.Words.{distance}
-use Rattle.gf2.specs.Polynomials.{power as power-under}
 use Rattle.gf2.specs.Fields.{product, power, alpha}
 
 -- the word's polynomial at z, under the product m

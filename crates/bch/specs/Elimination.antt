@@ -1,7 +1,7 @@
 -- Polynomials as lists of coefficients, lowest first, and the elimination that the decoder runs.
 use mathlib.Core.List.{List, [], _∷_, map}
 use Prim.Native.Nat.{ℕ, zero, suc}
-use mathlib.Core.Bool.{Bool, true, false}
+use mathlib.Core.Bool.{true, false}
 use lib.Bits.{bitXor}
 use lib.Dec.{eqb}
 

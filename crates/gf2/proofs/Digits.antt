@@ -1,17 +1,17 @@
 -- The bits of a number and the number of its bits.
-use mathlib.Core.Path.{_≡_, refl, sym, ap, ap₂, _∙_, subst}
+use mathlib.Core.Path.{_≡_, refl, sym, ap, ap₂, _∙_}
 use mathlib.Core.Bool.{Bool, true, false, cond}
-use mathlib.Core.List.{List, [], _∷_, _++_}
+use mathlib.Core.List.{List, [], _∷_}
 use Prim.Native.Nat.{ℕ, zero, suc, _+_, _-_, _*_, _/_, _%_, _^_, _≤_, _<_}
 use native.Mathlib.Nat.{pow-suc, mod-lt, zero-lt-suc, div-eq-of-lt, mod-eq-of-lt}
 use native.Mathlib.Omega.{arith}
 use lib.ListN.{length, replicate}
-use lib.Pow.{pow-pos, pow-add, shl-shr}
-use lib.Bits.{bitXor, xor-lt, xor-self, xor-shr, xor-mod, xor-shifted}
+use lib.Pow.{pow-add, shl-shr}
+use lib.Bits.{bitXor, xor-self, xor-shr, xor-mod, xor-shifted}
 use lib.Dec.{eqb}
 use Rattle.std.proofs.shelf.Bits.{shr-high, mod-pow-add}
-use Rattle.gf2.specs.Words.{plus, add, weight, number, bits-of}
-use Rattle.gf2.proofs.Sums.{add-zeros, number-lt, number-add, bits-of-length}
+use Rattle.gf2.specs.Words.{plus, add, number, bits-of}
+use Rattle.gf2.proofs.Sums.{number-lt, bits-of-length}
 
 digit : ℕ → ℕ → Bool
 digit i n = eqb (n / 2 ^ i % 2) 1
@@ -100,3 +100,8 @@ number-mod (suc k) n =
 
 pub number-bits-of : (k n : ℕ) → n < 2 ^ k → number (bits-of k n) ≡ n
 number-bits-of k n h = number-mod k n ∙ mod-eq-of-lt h
+
+-- bits above the k low ones do not matter
+pub bits-of-mod : (k n : ℕ) → bits-of k (n % 2 ^ k) ≡ bits-of k n
+bits-of-mod k n =
+    ap (bits-of k) (sym (number-mod k n)) ∙ ap (λ (i : ℕ). bits-of i (number (bits-of k n))) (sym (bits-of-length k n)) ∙ bits-of-number (bits-of k n)

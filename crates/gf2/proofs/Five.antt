@@ -10,7 +10,9 @@ use Rattle.std.specs.declared.option.Option.{Option}
 use Rattle.std.specs.declared.option.Option.the-variants.{None, Some}
 use Rattle.gf2.specs.declared.field.Field.{Field}
 use Rattle.gf2.specs.declared.field.Field.the-variants.{Three, Five, Eight, Ten, Fourteen}
-use Rattle.gf2.specs.Product.{times-x, shifted, avoids-one}
+use Rattle.gf2.specs.Product.{times-x}
+use Rattle.gf2.proofs.Ring.{shifted, times-x-is-product}
+use Rattle.gf2.proofs.Orbit.{avoids-one}
 use Rattle.gf2.specs.Fields.{top, modulus-tail, width, field-of, element, product, power, IsRing, IsField, Alpha-generates}
 use Rattle.gf2.proofs.Algebra.{isRing, isField}
 use Rattle.gf2.proofs.Generators as generators
@@ -30,6 +32,12 @@ tested Five = record { fits = lit< tt; size = refl; back = refl; before = tt; al
 tested Eight = record { fits = lit< tt; size = refl; back = refl; before = tt; alpha = refl }
 tested Ten = record { fits = lit< tt; size = refl; back = refl; before = tt; alpha = refl }
 tested Fourteen = record { fits = lit< tt; size = refl; back = refl; before = tt; alpha = refl }
+
+-- x times a is the product of alpha and a
+pub times-alpha : (F : Field) (a : ℕ) → times-x (top F) (modulus-tail F) a ≡ product F 2 a
+times-alpha F a =
+    let t = tested F in
+    times-x-is-product (top F) (modulus-tail F) (t .fits) a ∙ ap (λ (x : ℕ). product F x a) (t .alpha)
 
 pub widths : (F : Field) → (1 ≤ top F) × (top F ≤ 13)
 widths Three = (lit≤ tt, lit≤ tt)

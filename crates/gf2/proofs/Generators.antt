@@ -1,12 +1,14 @@
 -- The powers of x as powers of the element x: they are distinct, they reach every element but 0, and they give the inverse.
-use mathlib.Core.Path.{_≡_, refl, sym, ap, _∙_, subst}
+use mathlib.Core.Path.{_≡_, refl, sym, ap, _∙_}
 use mathlib.Core.Logic.{_≢_}
-use Prim.Native.Nat.{ℕ, zero, suc, _+_, _-_, _*_, _/_, _%_, _^_, _≤_, _<_}
+use Prim.Native.Nat.{ℕ, zero, suc, _-_, _%_, _^_, _<_}
 use native.Mathlib.Nat.{mod-lt}
 use native.Mathlib.Omega.{arith}
 use lib.Dec.{T}
 use lib.Pow.{pow-pos}
-use Rattle.gf2.specs.Product.{times, shifted, times-x, avoids-one}
+use Rattle.gf2.specs.Product.{times, times-x}
+use Rattle.gf2.proofs.Ring.{shifted}
+use Rattle.gf2.proofs.Orbit.{avoids-one}
 use Rattle.gf2.specs.Polynomials.{power}
 use Rattle.gf2.specs.Fields.{Alpha-generates}
 use Rattle.gf2.proofs.Algebra.{isRing}
@@ -24,7 +26,7 @@ module _ (n p : ℕ) (hp : p < 2 ^ suc n) (N : ℕ) (back : shifted n p N 1 ≡ 
   unfolding power
   shifted-is-power zero = unfold shifted in refl
   shifted-is-power (suc i) =
-      shifted-suc i 1 ∙ ring.times-x-is-product n p hp (shifted n p i 1) (ring.shifted-lt n p hp i 1 (ring.one-lt n)) ∙ ap (times n p (times-x n p 1)) (shifted-is-power i)
+      shifted-suc i 1 ∙ ring.times-x-is-product n p hp (shifted n p i 1) ∙ ap (times n p (times-x n p 1)) (shifted-is-power i)
 
   pub power-mod : (a j : ℕ) → power (times n p) (a % 2 ^ suc n) j ≡ power (times n p) a j
   unfolding power

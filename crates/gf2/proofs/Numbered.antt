@@ -2,6 +2,7 @@
 use mathlib.Core.Path.{_≡_, refl, sym, ap, ap₂, _∙_}
 use mathlib.Core.Bool.{Bool, true, false, not, cond}
 use mathlib.Core.List.{List, [], _∷_}
+use mathlib.Core.Logic.{_≢_}
 use Prim.Native.Nat.{ℕ, zero, suc, _+_, _-_, _*_, _/_, _%_, _^_, _≤_, _<_}
 use native.Mathlib.Nat.{mod-lt, zero-lt-suc, div-add-mod', le-of-suc-le-suc, not-suc-le-zero}
 use native.Mathlib.Omega.{arith}
@@ -9,7 +10,6 @@ use lib.ListN.{length, getD, set, take, drop, length-drop}
 use lib.Bits.{bitXor}
 use lib.Dec.{eqb}
 use Rattle.std.proofs.shelf.Lists.{take-more, getD-drop}
-use Rattle.std.specs.declared.option.Option.{Option}
 use Rattle.std.specs.declared.option.Option.the-variants.{None, Some}
 use Rattle.gf2.specs.Words.{bits, bit-number, flipped, number}
 use Rattle.gf2.proofs.Sums.{number-push}
@@ -28,15 +28,6 @@ pub bit-number-past : (w : List Bool) (i : ℕ) → length w ≤ i → bit-numbe
 bit-number-past [] i h = refl
 bit-number-past (b ∷ w) zero h = absurd (not-suc-le-zero h)
 bit-number-past (b ∷ w) (suc i) h = bit-number-past w i (le-of-suc-le-suc h)
-
-pub flipped-zero : (w : List Bool) → flipped w 0 ≡ w
-flipped-zero [] = refl
-flipped-zero (b ∷ w) = refl
-
-pub flipped-at : (w : List Bool) (i : ℕ) → flipped w (suc i) ≡ set w i (not (getD w i false))
-flipped-at [] i = refl
-flipped-at (b ∷ w) zero = refl
-flipped-at (b ∷ w) (suc i) = ap (λ (r : List Bool). b ∷ r) (flipped-at w i)
 
 -- a word without that bit is left as it is
 pub flipped-none : (w : List Bool) (i : ℕ) → bit-number w i ≡ None → flipped w i ≡ w
@@ -59,19 +50,31 @@ within (d ∷ w) zero b h = let z : _≡_ {A = ℕ} 0 1 = cc in absurd (omega ar
 within (d ∷ w) (suc zero) b h = (omega arith, omega arith)
 within (d ∷ w) (suc (suc i)) b h = let r = within w (suc i) b h in (omega arith, omega arith)
 
+-- a bit that is there, flipped where it stands
+pub flipped-at-number : (w : List Bool) (i : ℕ) (b : Bool) → bit-number w i ≡ Some b → flipped w i ≡ set w (i - 1) (not b)
+flipped-at-number [] i b h = let z : _≡_ {A = ℕ} 0 1 = cc in absurd (omega arith)
+flipped-at-number (d ∷ w) zero b h = let z : _≡_ {A = ℕ} 0 1 = cc in absurd (omega arith)
+flipped-at-number (d ∷ w) (suc zero) b h = let e : d ≡ b = cc in ap (λ (x : Bool). not x ∷ w) e
+flipped-at-number (d ∷ w) (suc (suc i)) b h =
+    ap (λ (r : List Bool). d ∷ r) (flipped-at-number w (suc i) b h ∙ ap (λ (j : ℕ). set w j (not b)) (let e : suc i - 1 ≡ i = omega arith in e))
+    ∙ ap (λ (j : ℕ). set (d ∷ w) j (not b)) (let e : suc i ≡ suc (suc i) - 1 = omega arith in e)
+
 -- the bit of the byte at place / 8
 pub byte-bit : (bs : List ℕ) (place : ℕ) → place / 8 < length bs → getD (bits bs) place false ≡ eqb (getD bs (place / 8) 0 / 2 ^ (7 - place % 8) % 2) 1
 byte-bit bs place h = ap (λ (k : ℕ). getD (bits bs) k false) (sym (div-add-mod' place 8)) ∙ bits-at bs (place / 8) (place % 8) h (mod-lt place (zero-lt-suc 7))
 
-pub byte-flipped : (bs : List ℕ) (place : ℕ) → place / 8 < length bs
-    → bits (set bs (place / 8) (bitXor (getD bs (place / 8) 0) (2 ^ (7 - place % 8)))) ≡ flipped (bits bs) (suc place)
-byte-flipped bs place h =
+-- the byte with one bit turned
+pub byte-put : (bs : List ℕ) (place : ℕ) (wanted : Bool) → place / 8 < length bs → getD (bits bs) place false ≢ wanted
+    → bits (set bs (place / 8) (bitXor (getD bs (place / 8) 0) (2 ^ (7 - place % 8)))) ≡ set (bits bs) place wanted
+byte-put bs place wanted h ne =
     bits-set bs (place / 8) (place % 8) h (mod-lt place (zero-lt-suc 7))
-    ∙ ap₂ (set (bits bs)) (div-add-mod' place 8) (ap not (sym (byte-bit bs place h)))
-    ∙ sym (flipped-at (bits bs) place)
-
-pub within-bytes : (bs : List ℕ) (place : ℕ) → place < length (bits bs) → place / 8 < length bs
-within-bytes bs place h = omega (arith, bits-length bs)
+    ∙ ap₂ (set (bits bs)) (div-add-mod' place 8) (ap not (sym (byte-bit bs place h)) ∙ other (getD (bits bs) place false) wanted ne)
+  where
+    other : (a b : Bool) → a ≢ b → not a ≡ b
+    other true true ne = absurd (ne refl)
+    other true false ne = refl
+    other false true ne = refl
+    other false false ne = absurd (ne refl)
 
 pub inside-bytes : (bs : List ℕ) (place : ℕ) → place / 8 < length bs → place < length (bits bs)
 inside-bytes bs place h = omega (arith, bits-length bs)

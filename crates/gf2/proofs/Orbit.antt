@@ -1,17 +1,20 @@
 -- Where the powers of x run through all elements but 0, every element but 0 has an inverse.
-use mathlib.Core.Path.{_≡_, refl, sym, ap, ap₂, _∙_, subst}
+use mathlib.Core.Path.{_≡_, refl, sym, ap, _∙_, subst}
 use mathlib.Core.Bool.{Bool, true, false}
-use mathlib.Core.Logic.{_⊎_, inl, inr, _≢_}
-use Prim.Native.Nat.{ℕ, zero, suc, _+_, _-_, _*_, _/_, _%_, _^_, _≤_, _<_}
-use native.Mathlib.Nat.{mod-lt, mod-eq-of-lt, div-eq-of-lt, pow-suc, zero-lt-suc, le-refl, suc-add, zero-add, add-suc, le-of-suc-le-suc}
+use mathlib.Core.Logic.{_≢_}
+use Prim.Native.Nat.{ℕ, zero, suc, _+_, _-_, _^_, _≤_, _<_}
+use native.Mathlib.Nat.{suc-add, zero-add, le-of-suc-le-suc}
 use native.Mathlib.Omega.{arith}
-use native.Mathlib.Decide.{ℕ-discrete, decLt}
+use native.Mathlib.Decide.{decLt}
 use lib.Dec.{T, eqb}
-use lib.Pow.{pow-pos, pow-lt, pow-add, shl-shr, ones-split, high, ones-lt}
-use lib.Bits.{bitXor, xor-zero-r, xor-mod, xor-shr}
-use Rattle.gf2.specs.Product.{times-x, times, shifted, avoids-one}
+use Rattle.gf2.specs.Product.{times-x, times}
 use Rattle.gf2.proofs.Pigeonhole.{pigeon}
-use Rattle.gf2.proofs.Ring.{_⊕_, one-lt, times-x-zero, times-comm, times-assoc, times-zero, one-times, times-shifted, shifted-lt}
+use Rattle.gf2.proofs.Ring.{shifted, one-lt, times-x-zero, times-comm, times-assoc, times-zero, one-times, times-shifted, shifted-lt}
+
+-- none of a, x a, x^2 a and so on, k of them, is 1
+unfoldable pub avoids-one : ℕ → ℕ → ℕ → ℕ → Bool
+avoids-one n p zero a = true
+avoids-one n p (suc k) a = elim (eqb a 1) [ true ↦ false | false ↦ avoids-one n p k (times-x n p a) ]
 
 module _ (n p : ℕ) where
   shifted-add : (i j a : ℕ) → shifted n p i (shifted n p j a) ≡ shifted n p (j + i) a
@@ -86,11 +89,12 @@ module _ (n p : ℕ) where
               choose (no a) (yes l) = absurd (differ j i l li (sym e))
               choose (no a) (no b) = omega arith
 
-      pub inverse : (a : ℕ) → a < 2 ^ suc n → a ≢ 0 → (b : ℕ) × (times n p a b ≡ 1)
+      pub inverse : (a : ℕ) → a < 2 ^ suc n → a ≢ 0 → (b : ℕ) × (b < 2 ^ suc n) × (times n p a b ≡ 1)
       inverse a h z =
           let r = log a h z in
           let i = r .0 in (
             shifted n p (N - i) 1,
+            shifted-lt n p hp (N - i) 1 (one-lt n),
             ap (λ (x : ℕ). times n p x (shifted n p (N - i) 1)) (sym (r .2)) ∙ times-shifted n p hp i 1 (shifted n p (N - i) 1) (one-lt n)
                 ∙ ap (shifted n p i) (one-times n p hp (shifted n p (N - i) 1) (shifted-lt n p hp (N - i) 1 (one-lt n)))
                 ∙ shifted-add i (N - i) 1 ∙ ap (λ (x : ℕ). shifted n p x 1) (let e : N - i + i ≡ N = omega (arith, r .1) in e) ∙ back,
@@ -99,5 +103,5 @@ module _ (n p : ℕ) where
       pub no-divisors : (a b : ℕ) → a < 2 ^ suc n → b < 2 ^ suc n → a ≢ 0 → times n p a b ≡ 0 → b ≡ 0
       no-divisors a b ha hb z e =
           let r = inverse a ha z in
-          sym (one-times n p hp b hb) ∙ ap (λ (x : ℕ). times n p x b) (sym (r .1) ∙ times-comm n p hp a (r .0))
+          sym (one-times n p hp b hb) ∙ ap (λ (x : ℕ). times n p x b) (sym (r .2) ∙ times-comm n p hp a (r .0))
           ∙ times-assoc n p hp (r .0) a b ∙ ap (times n p (r .0)) e ∙ times-zero n p hp (r .0)

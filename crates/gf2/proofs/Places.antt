@@ -1,17 +1,16 @@
 -- Where the bits of bytes stand.
-use mathlib.Core.Path.{_≡_, refl, sym, ap, ap₂, _∙_, subst}
-use mathlib.Core.Bool.{Bool, true, false, cond}
+use mathlib.Core.Path.{_≡_, refl, sym, ap, _∙_}
+use mathlib.Core.Bool.{Bool, true, false}
 use mathlib.Core.List.{List, [], _∷_, _++_, append-assoc}
-use mathlib.Core.Logic.{_≢_}
-use Prim.Native.Nat.{ℕ, zero, suc, _+_, _-_, _*_, _/_, _%_, _^_, _≤_, _<_}
-use native.Mathlib.Nat.{mod-lt, zero-lt-suc, div-add-mod', suc-mul}
+use Prim.Native.Nat.{ℕ, zero, suc, _+_, _-_, _*_, _/_, _%_, _^_, _<_}
+use native.Mathlib.Nat.{suc-mul}
 use native.Mathlib.Omega.{arith}
 use lib.ListN.{length, getD, set, length-append}
 use lib.Bits.{bitXor, xor-comm}
 use lib.Dec.{eqb}
-use Rattle.std.proofs.shelf.Lists.{getD-append-left, getD-append-right, set-append-left, set-append-right, getD-past, set-past}
+use Rattle.std.proofs.shelf.Lists.{getD-append-left, getD-append-right, set-append-left, set-append-right}
 use Rattle.gf2.specs.Words.{plus, add, bits-of, bits}
-use Rattle.gf2.proofs.Sums.{bits-of-length, plus-comm}
+use Rattle.gf2.proofs.Sums.{bits-of-length}
 use Rattle.gf2.proofs.Digits.{bits-of-xor}
 
 pub bits-length : (bs : List ℕ) → length (bits bs) ≡ length bs * 8

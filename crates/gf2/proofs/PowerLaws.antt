@@ -13,12 +13,12 @@ module _ (k : ℕ) (m : ℕ → ℕ → ℕ) (R : IsRing k m) where
   pub swap : (a b c : ℕ) → m a (m b c) ≡ m b (m a c)
   swap a b c = sym (associative a b c) ∙ ap (λ (x : ℕ). m x c) (commutative a b) ∙ associative b a c
 
-module _ (k : ℕ) (m : ℕ → ℕ → ℕ) (R : IsRing k m) (two : 1 < 2 ^ k) where
+module _ (k : ℕ) (m : ℕ → ℕ → ℕ) (R : IsRing k m) (nontrivial : 1 < 2 ^ k) where
   open IsRing R using (closed, commutative, associative, unit)
 
   pub power-lt : (x j : ℕ) → power m x j < 2 ^ k
   unfolding power
-  power-lt x zero = two
+  power-lt x zero = nontrivial
   power-lt x (suc j) = closed x (power m x j)
 
   pub power-add : (x i j : ℕ) → power m x (i + j) ≡ m (power m x i) (power m x j)
@@ -29,7 +29,7 @@ module _ (k : ℕ) (m : ℕ → ℕ → ℕ) (R : IsRing k m) (two : 1 < 2 ^ k) 
 
   pub power-product : (a b n : ℕ) → power m (m a b) n ≡ m (power m a n) (power m b n)
   unfolding power
-  power-product a b zero = sym (unit 1 two)
+  power-product a b zero = sym (unit 1 nontrivial)
   power-product a b (suc n) =
       let A = power m a n in
       let B = power m b n in
@@ -38,7 +38,7 @@ module _ (k : ℕ) (m : ℕ → ℕ → ℕ) (R : IsRing k m) (two : 1 < 2 ^ k) 
   pub power-of-one : (n : ℕ) → power m 1 n ≡ 1
   unfolding power
   power-of-one zero = refl
-  power-of-one (suc n) = ap (m 1) (power-of-one n) ∙ unit 1 two
+  power-of-one (suc n) = ap (m 1) (power-of-one n) ∙ unit 1 nontrivial
 
   pub power-swap : (x i n : ℕ) → power m (power m x i) n ≡ power m (power m x n) i
   unfolding power
@@ -61,7 +61,7 @@ module _ (k : ℕ) (m : ℕ → ℕ → ℕ) (R : IsRing k m) (two : 1 < 2 ^ k) 
   -- where the power N is 1, the powers repeat after N
   rounds : (x N : ℕ) → power m x N ≡ 1 → (q : ℕ) → power m x (q * N) ≡ 1
   rounds x N h zero = ap (power m x) (let e : 0 * N ≡ 0 = omega arith in e) ∙ (unfold power in refl)
-  rounds x N h (suc q) = ap (power m x) (suc-mul q N) ∙ power-add x (q * N) N ∙ ap₂ m (rounds x N h q) h ∙ unit 1 two
+  rounds x N h (suc q) = ap (power m x) (suc-mul q N) ∙ power-add x (q * N) N ∙ ap₂ m (rounds x N h q) h ∙ unit 1 nontrivial
 
   pub power-round : (x N : ℕ) → power m x N ≡ 1 → (i : ℕ) → power m x (i % N) ≡ power m x i
   power-round x N h i =

@@ -6,7 +6,13 @@ use native.Mathlib.Omega.{arith}
 use lib.Arith.{lt-one, digits-div, digits-mod, mod-mul}
 use lib.Pow.{pow-pos, pow-mono, pow-lt, split}
 use lib.Bits.{bitXor, xor-comm, xor-assoc, xor-zero-r, xor-self, xor-mod, xor-shr, xor-block, xor-lt, xor-shifted}
-use Rattle.gf2.specs.Product.{if-set, times-x, sum-of-shifts, times, shifted}
+use Rattle.std.proofs.shelf.Bits.{field-of, mod-pow-add, mod-low}
+use Rattle.gf2.specs.Product.{if-set, times-x, sum-of-shifts, times}
+
+-- x^i times the element a
+unfoldable pub shifted : ℕ → ℕ → ℕ → ℕ → ℕ
+shifted n p zero a = a
+shifted n p (suc i) a = shifted n p i (times-x n p a)
 
 infixl 65 _⊕_
 abbrev pub _⊕_ : ℕ → ℕ → ℕ
@@ -102,11 +108,11 @@ module _ (n p : ℕ) where
   shifts-zero-left : (k b : ℕ) → sum-of-shifts n p k 0 b ≡ 0
   unfolding sum-of-shifts
   shifts-zero-left zero b = refl
-  shifts-zero-left (suc k) b = ap₂ bitXor (ap (times-x n p) (shifts-zero-left k (b / 2)) ∙ times-x-zero) (nought (b % 2))
+  shifts-zero-left (suc k) b = ap₂ bitXor (ap (times-x n p) (shifts-zero-left k (b / 2)) ∙ times-x-zero) (zero-product (b % 2))
     where
-      nought : (d : ℕ) → if-set d 0 ≡ 0
-      nought zero = refl
-      nought (suc d) = refl
+      zero-product : (d : ℕ) → if-set d 0 ≡ 0
+      zero-product zero = refl
+      zero-product (suc d) = refl
 
   -- more digits than b has change nothing
   shifts-more : (k a b : ℕ) → b < 2 ^ k → sum-of-shifts n p (suc k) a b ≡ sum-of-shifts n p k a b
@@ -299,10 +305,6 @@ module _ (n p : ℕ) where
     unfolding times
     times-add a b c = shifts-add-right (suc n) (a % 2 ^ suc n) b c
 
-    pub add-times : (a b c : ℕ) → times n p (a ⊕ b) c ≡ times n p a c ⊕ times n p b c
-    unfolding times
-    add-times a b c = ap (λ (x : ℕ). sum-of-shifts n p (suc n) x c) (xor-mod a b (suc n)) ∙ shifts-add-left (suc n) (a % 2 ^ suc n) (b % 2 ^ suc n) c
-
     pub times-zero : (a : ℕ) → times n p a 0 ≡ 0
     unfolding times
     times-zero a = shifts-zero-right (suc n) (a % 2 ^ suc n)
@@ -325,9 +327,28 @@ module _ (n p : ℕ) where
     shifted-lt zero a h = h
     shifted-lt (suc i) a h = shifted-lt i (times-x n p a) (times-x-lt a)
 
-    -- x times a is the product of x and a
-    pub times-x-is-product : (a : ℕ) → a < 2 ^ suc n → times-x n p a ≡ times n p (times-x n p 1) a
-    times-x-is-product a h = sym (unfold shifted in (times-shifted 1 1 a (one-lt n) ∙ ap (times-x n p) (one-times a h)))
+    -- x times an element is the product of x and that element, and of any other number only the low bits count
+    times-x-of-element : (a : ℕ) → a < 2 ^ suc n → times-x n p a ≡ times n p (times-x n p 1) a
+    times-x-of-element a h = sym (unfold shifted in (times-shifted 1 1 a (one-lt n) ∙ ap (times-x n p) (one-times a h)))
+
+    times-x-mod : (a : ℕ) → times-x n p (a % 2 ^ suc n) ≡ times-x n p a
+    unfolding times-x
+    times-x-mod a = ap₂ (λ (x y : ℕ). (x * 2) ⊕ if-set y p) low high
+      where
+        e : a % 2 ^ suc n ≡ a % 2 ^ (1 + n)
+        e = ap (λ (i : ℕ). a % 2 ^ i) (let q : suc n ≡ 1 + n = omega arith in q)
+
+        low : a % 2 ^ suc n % 2 ^ n ≡ a % 2 ^ n
+        low = ap (λ (x : ℕ). x % 2 ^ n) (e ∙ mod-pow-add a 1 n) ∙ mod-low (a / 2 ^ n % 2 ^ 1) n (a % 2 ^ n) (mod-lt a (pow-pos n))
+
+        high : a % 2 ^ suc n / 2 ^ n % 2 ≡ a / 2 ^ n % 2
+        high = ap (λ (x : ℕ). x / 2 ^ n % 2) e ∙ ap (λ (x : ℕ). x % 2) (field-of a 1 n) ∙ mod-mod (a / 2 ^ n) 2
+
+    pub times-x-is-product : (a : ℕ) → times-x n p a ≡ times n p (times-x n p 1) a
+    times-x-is-product a =
+        let x = times-x n p 1 in
+        sym (times-x-mod a) ∙ times-x-of-element (a % 2 ^ suc n) (reduced-lt a)
+        ∙ times-comm x (a % 2 ^ suc n) ∙ times-mod a x ∙ times-comm a x
 
     module _ (hn : 1 ≤ n) where
       -- where x is an element
@@ -336,9 +357,9 @@ module _ (n p : ℕ) where
 
       pub x-moves-up : (i : ℕ) → i < n → times n p 2 (2 ^ i) ≡ 2 ^ suc i
       x-moves-up i h =
-          ap (λ (x : ℕ). times n p x (2 ^ i)) (sym x-is-2) ∙ sym (times-x-is-product (2 ^ i) (pow-lt (omega arith)))
+          ap (λ (x : ℕ). times n p x (2 ^ i)) (sym x-is-2) ∙ sym (times-x-is-product (2 ^ i))
           ∙ times-x-small (2 ^ i) (pow-lt h) ∙ sym (pow-suc 2 i)
 
       pub x-wraps : times n p 2 (2 ^ n) ≡ p
       x-wraps =
-          ap (λ (x : ℕ). times n p x (2 ^ n)) (sym x-is-2) ∙ sym (times-x-is-product (2 ^ n) (pow-lt (le-refl (suc n)))) ∙ times-x-top
+          ap (λ (x : ℕ). times n p x (2 ^ n)) (sym x-is-2) ∙ sym (times-x-is-product (2 ^ n)) ∙ times-x-top

@@ -2,12 +2,12 @@
 use mathlib.Core.Path.{_≡_, refl, sym, ap, ap₂, _∙_}
 use mathlib.Core.List.{List, [], _∷_}
 use mathlib.Core.Logic.{_≢_}
-use Prim.Native.Nat.{ℕ, zero, suc, _+_, _^_, _≤_, _<_}
+use Prim.Native.Nat.{ℕ, suc, _+_, _^_, _<_}
 use native.Mathlib.Omega.{arith}
 use lib.ListN.{length}
 use lib.Bits.{bitXor, xor-comm, xor-assoc, xor-zero-r, xor-self, xor-lt}
 use lib.Pow.{pow-pos}
-use Rattle.gf2.specs.Polynomials.{value, All, Distinct, Element, Few-roots}
+use Rattle.gf2.specs.Polynomials.{value, All, Element, Few-roots}
 use Rattle.gf2.specs.Fields.{IsField, IsRing}
 use Rattle.gf2.proofs.Ring.{_⊕_, xor4}
 use Rattle.gf2.proofs.PowerLaws as powers
@@ -31,7 +31,7 @@ quotient-length m x (d ∷ ds) = ap suc (quotient-length m x ds)
 
 module _ (k : ℕ) (m : ℕ → ℕ → ℕ) (F : IsField k m) where
   open IsField F using (no-zero-divisors)
-  open IsRing (F .ring) using (closed, commutative, associative, distributive, nought)
+  open IsRing (F .ring) using (closed, commutative, associative, distributive, zero-product)
 
   pub value-lt : (cs : List ℕ) (z : ℕ) → All (Element k) cs → value m cs z < 2 ^ k
   unfolding value
@@ -59,13 +59,13 @@ module _ (k : ℕ) (m : ℕ → ℕ → ℕ) (F : IsField k m) where
   value-of-zeros : (cs : List ℕ) (x : ℕ) → All (λ c. c ≡ 0) cs → value m cs x ≡ 0
   unfolding value
   value-of-zeros [] x h = refl
-  value-of-zeros (c ∷ cs) x h = ap₂ (λ (a b : ℕ). a ⊕ m x b) (h .0) (value-of-zeros cs x (h .1)) ∙ nought x
+  value-of-zeros (c ∷ cs) x h = ap₂ (λ (a b : ℕ). a ⊕ m x b) (h .0) (value-of-zeros cs x (h .1)) ∙ zero-product x
 
   -- the first coefficient, where the others are 0
   constant : (c : ℕ) (cs : List ℕ) (x : ℕ) → All (λ c. c ≡ 0) cs → value m (c ∷ cs) x ≡ 0 → c ≡ 0
   unfolding value
   constant c cs x h e =
-      sym (xor-zero-r c) ∙ ap (bitXor c) (sym (ap (m x) (value-of-zeros cs x h) ∙ nought x)) ∙ e
+      sym (xor-zero-r c) ∙ ap (bitXor c) (sym (ap (m x) (value-of-zeros cs x h) ∙ zero-product x)) ∙ e
 
   zero-quotient : (x : ℕ) (cs : List ℕ) → All (λ c. c ≡ 0) (quotient m x cs) → All (λ c. c ≡ 0) cs
   unfolding quotient

@@ -2,14 +2,12 @@
 use mathlib.Core.Path.{_≡_, refl, sym, ap, ap₂, _∙_, subst}
 use mathlib.Core.Bool.{Bool, true, false, cond}
 use mathlib.Core.List.{List, [], _∷_, _++_}
-use mathlib.Core.Logic.{_≢_, _⊎_, inl, inr}
-use Prim.Native.Nat.{ℕ, zero, suc, _+_, _-_, _*_, _/_, _%_, _^_, _≤_, _<_}
+use Prim.Native.Nat.{ℕ, zero, suc, _+_, _-_, _*_, _^_, _≤_, _<_}
 use native.Mathlib.Nat.{pow-suc}
 use native.Mathlib.Omega.{arith}
-use lib.ListN.{length, take, drop, replicate, length-append}
+use lib.ListN.{length, replicate}
 use lib.Pow.{pow-pos}
-use lib.Bits.{bitXor, xor-block, xor-lt, xor-self, xor-zero-r}
-use lib.Dec.{eqb}
+use lib.Bits.{bitXor, xor-block}
 use Rattle.std.proofs.shelf.Lists.{length-push}
 use Rattle.gf2.specs.Words.{plus, add, weight, distance, number, bits-of}
 

@@ -1,12 +1,12 @@
 -- Vandermonde: power sums at distinct points other than 0, as many as there are points, are all 0 only if the coefficients are.
-use mathlib.Core.Path.{_≡_, refl, sym, ap, ap₂, _∙_, subst}
+use mathlib.Core.Path.{_≡_, refl, sym, ap, ap₂, _∙_}
 use mathlib.Core.List.{List, [], _∷_}
 use mathlib.Core.Logic.{_≢_}
 use Prim.Native.Nat.{ℕ, zero, suc, _+_, _^_, _≤_, _<_}
 use native.Mathlib.Omega.{arith}
 use lib.ListN.{length}
-use lib.Bits.{bitXor, xor-comm, xor-assoc, xor-zero-r, xor-self, xor-lt}
-use Rattle.gf2.specs.Polynomials.{power, power-sum, All, Distinct, Point, Vandermonde}
+use lib.Bits.{bitXor, xor-assoc, xor-zero-r, xor-self, xor-lt}
+use Rattle.gf2.specs.Polynomials.{power, power-sum, All, Nonzero, Vandermonde}
 use Rattle.gf2.proofs.Ring.{_⊕_, xor4}
 use Rattle.gf2.specs.Fields.{IsField, IsRing}
 use Rattle.gf2.proofs.PowerLaws as powers
@@ -25,19 +25,19 @@ all-map3 f [] h g k = tt
 all-map3 f (x ∷ xs) h g k = (f x (h .0) (g .0) (k .0), all-map3 f xs (h .1) (g .1) (k .1))
 
 module _ (k : ℕ) (m : ℕ → ℕ → ℕ) (F : IsField k m) where
-  open IsField F using (two, no-zero-divisors)
-  open IsRing (F .ring) using (closed, commutative, associative, distributive, unit, nought)
+  open IsField F using (nontrivial, no-zero-divisors)
+  open IsRing (F .ring) using (closed, commutative, associative, distributive, unit, zero-product)
 
   pub dist-l : (a b c : ℕ) → m (a ⊕ b) c ≡ m a c ⊕ m b c
   dist-l a b c = commutative (a ⊕ b) c ∙ distributive c a b ∙ ap₂ bitXor (commutative c a) (commutative c b)
 
   pub nought-l : (a : ℕ) → m 0 a ≡ 0
-  nought-l a = commutative 0 a ∙ nought a
+  nought-l a = commutative 0 a ∙ zero-product a
 
-  pub power-not-0 : (x j : ℕ) → Point k x → power m x j ≢ 0
+  pub power-not-0 : (x j : ℕ) → Nonzero k x → power m x j ≢ 0
   unfolding power
   power-not-0 x zero h e = omega arith
-  power-not-0 x (suc j) h e = power-not-0 x j h (no-zero-divisors x (power m x j) (h .0) (powers.power-lt k m (F .ring) two x j) (h .1) e)
+  power-not-0 x (suc j) h e = power-not-0 x j h (no-zero-divisors x (power m x j) (h .0) (powers.power-lt k m (F .ring) nontrivial x j) (h .1) e)
 
   pub power-sum-0 : (c : ℕ → ℕ) (xs : List ℕ) (j : ℕ) → All (λ x. c x ≡ 0) xs → power-sum m c xs j ≡ 0
   unfolding power-sum
@@ -57,7 +57,7 @@ module _ (k : ℕ) (m : ℕ → ℕ → ℕ) (F : IsField k m) where
 
   power-sum-shift : (c : ℕ → ℕ) (x : ℕ) (xs : List ℕ) (j : ℕ) → power-sum m (shifted c x) xs j ≡ power-sum m c xs (suc j) ⊕ m x (power-sum m c xs j)
   unfolding power-sum
-  power-sum-shift c x [] j = sym (nought x)
+  power-sum-shift c x [] j = sym (zero-product x)
   power-sum-shift c x (y ∷ xs) j =
       ap₂ bitXor (one-shift c x y j) (power-sum-shift c x xs j)
       ∙ xor4 (m (c y) (power m y (suc j))) (m x (m (c y) (power m y j))) (power-sum m c xs (suc j)) (m x (power-sum m c xs j))
@@ -67,7 +67,7 @@ module _ (k : ℕ) (m : ℕ → ℕ → ℕ) (F : IsField k m) where
   power-sum-out c x xs j = sym gone ∙ power-sum-shift c x (x ∷ xs) j
     where
       gone : power-sum m (shifted c x) (x ∷ xs) j ≡ power-sum m (shifted c x) xs j
-      gone = unfold power-sum shifted in (ap (λ (y : ℕ). m (m (c x) y) (power m x j) ⊕ power-sum m (shifted c x) xs j) (xor-self x) ∙ ap (λ (y : ℕ). m y (power m x j) ⊕ power-sum m (shifted c x) xs j) (nought (c x)) ∙ ap (λ (y : ℕ). y ⊕ power-sum m (shifted c x) xs j) (nought-l (power m x j)))
+      gone = unfold power-sum shifted in (ap (λ (y : ℕ). m (m (c x) y) (power m x j) ⊕ power-sum m (shifted c x) xs j) (xor-self x) ∙ ap (λ (y : ℕ). m y (power m x j) ⊕ power-sum m (shifted c x) xs j) (zero-product (c x)) ∙ ap (λ (y : ℕ). y ⊕ power-sum m (shifted c x) xs j) (nought-l (power m x j)))
 
   pub vandermonde : Vandermonde k m
   vandermonde [] c a pts apart low sums = tt
@@ -80,16 +80,16 @@ module _ (k : ℕ) (m : ℕ → ℕ → ℕ) (F : IsField k m) where
 
       sums-rest : (j : ℕ) → a ≤ j → j < a + length xs → power-sum m (shifted c x) xs j ≡ 0
       sums-rest j h l =
-          power-sum-out c x xs j ∙ ap₂ (λ (u v : ℕ). u ⊕ m x v) (sums (suc j) (omega arith) (omega arith)) (sums j h (omega arith)) ∙ nought x
+          power-sum-out c x xs j ∙ ap₂ (λ (u v : ℕ). u ⊕ m x v) (sums (suc j) (omega arith) (omega arith)) (sums j h (omega arith)) ∙ zero-product x
 
-      back : (y : ℕ) → shifted c x y ≡ 0 → Point k y → y ≢ x → c y ≡ 0
+      back : (y : ℕ) → shifted c x y ≡ 0 → Nonzero k y → y ≢ x → c y ≡ 0
       back y z q d =
           no-zero-divisors (y ⊕ x) (c y) (xor-lt k y x (q .0) (pts .0 .0)) (low y) (λ e. d (xor-eq y x e)) (commutative (y ⊕ x) (c y) ∙ (unfold shifted in z))
 
       finish : All (λ x. c x ≡ 0) xs → (c x ≡ 0) × All (λ x. c x ≡ 0) xs
       finish h =
           let e : m (c x) (power m x a) ≡ 0 = sym (xor-zero-r (m (c x) (power m x a))) ∙ ap (bitXor (m (c x) (power m x a))) (sym (power-sum-0 c xs a h)) ∙ first in
-          (no-zero-divisors (power m x a) (c x) (powers.power-lt k m (F .ring) two x a) (low x) (power-not-0 x a (pts .0)) (commutative (power m x a) (c x) ∙ e), h)
+          (no-zero-divisors (power m x a) (c x) (powers.power-lt k m (F .ring) nontrivial x a) (low x) (power-not-0 x a (pts .0)) (commutative (power m x a) (c x) ∙ e), h)
         where
           first : m (c x) (power m x a) ⊕ power-sum m c xs a ≡ 0
           first = unfold power-sum in sums a (omega arith) (omega arith)

@@ -1,20 +1,18 @@
 -- The laws of words and the bits of bytes.
 use mathlib.Core.Path.{_≡_, refl, sym, ap, ap₂, _∙_, subst}
-use mathlib.Core.Bool.{Bool, true, false, not, cond}
-use mathlib.Core.List.{List, [], _∷_, _++_}
+use mathlib.Core.Bool.{Bool, true, false}
+use mathlib.Core.List.{List, [], _∷_}
 use mathlib.Core.Logic.{_≢_}
-use Prim.Native.Nat.{ℕ, zero, suc, _+_, _*_, _^_, _≤_, _<_}
+use Prim.Native.Nat.{ℕ, zero, suc, _+_, _≤_}
 use native.Mathlib.Omega.{arith}
-use lib.ListN.{length, replicate, take, drop}
+use lib.ListN.{length, take, drop}
 use Rattle.std.proofs.shelf.Lists.{take-at, drop-at}
-use Rattle.std.specs.declared.option.Option.{Option}
-use Rattle.std.specs.declared.option.Option.the-variants.{None, Some}
 use Rattle.gf2.specs.Words.{add, weight, distance, bits, bits-of, bit-number, flipped, number}
 use Rattle.gf2.specs.WordLaws.{Bytes, Bits-of-bytes, Flipping, Distance-is-a-metric, Words-are-numbers}
 use Rattle.gf2.proofs.Sums.{add-self, add-back, add-zeros, weight-zeros, no-weight, distance-comm, triangle, number-lt, bits-of-length, add-length}
 use Rattle.gf2.proofs.Digits.{bits-of-number, number-bits-of}
 use Rattle.gf2.proofs.Places.{bits-length, bits-append}
-use Rattle.gf2.proofs.Numbered.{flipped-bit}
+use Rattle.gf2.proofs.Numbered.{flipped-bit, flipped-none}
 
 tell-the-bytes : (cs bs : List ℕ) → Bytes cs → Bytes bs → bits cs ≡ bits bs → cs ≡ bs
 tell-the-bytes [] [] hc hb e = refl
@@ -58,7 +56,7 @@ flipped-other (b ∷ w) (suc (suc i)) (suc zero) h = refl
 flipped-other (b ∷ w) (suc (suc i)) (suc (suc j)) h = flipped-other w (suc i) (suc j) (λ e. h (ap suc e))
 
 pub flipping : Flipping
-flipping = record { same-length = flipped-length; twice-is-nothing = flipped-twice; that-bit = flipped-bit; no-other-bit = flipped-other }
+flipping = record { same-length = flipped-length; twice-is-nothing = flipped-twice; that-bit = flipped-bit; none-to-flip = flipped-none; no-other-bit = flipped-other }
 
 none-only-between-equals : (a b : List Bool) → length a ≡ length b → distance a b ≡ 0 → a ≡ b
 none-only-between-equals a b h e =

@@ -1,9 +1,7 @@
 -- Polynomials over the two elements 0 and 1, modulo x^(n+1) + p, as numbers: bit i of a number is the coefficient of x^i.
 -- An element is a number below 2^(n+1), and the sum of two is bitXor.
 use Prim.Native.Nat.{ℕ, zero, suc, _*_, _/_, _%_, _^_}
-use mathlib.Core.Bool.{Bool, true, false}
 use lib.Bits.{bitXor}
-use lib.Dec.{eqb}
 
 -- a where the bit is set, else 0
 abbrev pub if-set : ℕ → ℕ → ℕ
@@ -22,13 +20,3 @@ sum-of-shifts n p (suc k) a b = bitXor (times-x n p (sum-of-shifts n p k a (b / 
 -- the product of the elements that two numbers have as their low n+1 bits
 unfoldable pub times : ℕ → ℕ → ℕ → ℕ → ℕ
 times n p a b = sum-of-shifts n p (suc n) (a % 2 ^ suc n) b
-
--- x^i times the element a
-unfoldable pub shifted : ℕ → ℕ → ℕ → ℕ → ℕ
-shifted n p zero a = a
-shifted n p (suc i) a = shifted n p i (times-x n p a)
-
--- none of a, x a, x^2 a and so on, k of them, is 1
-unfoldable pub avoids-one : ℕ → ℕ → ℕ → ℕ → Bool
-avoids-one n p zero a = true
-avoids-one n p (suc k) a = elim (eqb a 1) [ true ↦ false | false ↦ avoids-one n p k (times-x n p a) ]

@@ -1,13 +1,12 @@
 -- What callers may rely on of words and the bits of bytes.
 use mathlib.Core.Path.{_≡_}
-use mathlib.Core.Bool.{Bool, true, false, not}
+use mathlib.Core.Bool.{Bool, not}
 use mathlib.Core.List.{List, [], _∷_, _++_}
 use mathlib.Core.Logic.{_≢_}
 use Prim.Native.Nat.{ℕ, _+_, _*_, _^_, _≤_, _<_}
 use lib.ListN.{length}
-use Rattle.std.specs.declared.option.Option.{Option}
-use Rattle.std.specs.declared.option.Option.the-variants.{Some}
-use Rattle.gf2.specs.Words.{weight, distance, bits, bits-of, bit-number, flipped, number}
+use Rattle.std.specs.declared.option.Option.the-variants.{None, Some}
+use Rattle.gf2.specs.Words.{distance, bits, bits-of, bit-number, flipped, number}
 
 -- numbers that are bytes
 abbrev pub Bytes : List ℕ → Type 0
@@ -24,6 +23,7 @@ pub record Flipping : Type 0 where
   pub same-length : (w : List Bool) (i : ℕ) → length (flipped w i) ≡ length w
   pub twice-is-nothing : (w : List Bool) (i : ℕ) → flipped (flipped w i) i ≡ w
   pub that-bit : (w : List Bool) (i : ℕ) (b : Bool) → bit-number w i ≡ Some b → bit-number (flipped w i) i ≡ Some (not b)
+  pub none-to-flip : (w : List Bool) (i : ℕ) → bit-number w i ≡ None → flipped w i ≡ w
   pub no-other-bit : (w : List Bool) (i j : ℕ) → i ≢ j → bit-number (flipped w i) j ≡ bit-number w j
 
 -- of words of one length

@@ -1,6 +1,35 @@
 // Bits of bytes, numbered from 1, the most significant of each byte first.
 ghost use mathlib.Core.Path.{_≡_};
+ghost use mathlib.Core.Bool.{false};
+ghost use Prim.Native.Nat.{_-_, _/_, _%_, _^_};
+ghost use lib.ListN.{getD, set};
 ghost use Rattle.gf2.specs.Words.{bits, bit-number, flipped, weight as weight-of, byte-distance, number-behind};
+
+// The bit at a place of a byte, counted from 0, the most significant first; the place counts modulo 8.
+fn digit(byte: u8, place: usize) -> u8
+    ensures value_of_the_bit { λ r. ⌜ r ≡ byte / 2 ^ (7 - place % 8) % 2 ⌝ }
+{
+    (byte >> (7 - place % 8)) % 2
+}
+
+// Whether the bit behind the first `skip` is set; past the end none is.
+pub fn is_set(bytes: &[u8], skip: usize) -> bool
+    ensures the_bit_there { λ r. ⌜ r ≡ getD (bits (now (bytes .entry))) skip false ⌝ }
+{
+    skip / 8 < bytes.len() && digit(bytes[skip / 8], skip) == 1
+}
+
+// Makes the bit behind the first `skip` what is wanted; past the end nothing changes.
+pub fn put(bytes: &mut [u8], skip: usize, wanted: bool)
+    ensures only_that_bit_is_set_so { λ _. ⌜ bits (now (bytes .exit)) ≡ set (bits (now (bytes .entry))) skip wanted ⌝ }
+{
+    if skip / 8 >= bytes.len() {
+        return;
+    }
+    if is_set(bytes, skip) != wanted {
+        bytes[skip / 8] = bytes[skip / 8] ^ (1 << (7 - skip % 8));
+    }
+}
 
 // The bit with that number; none where there is no such bit.
 pub fn bit(bytes: &[u8], nth: usize) -> Option<bool>
@@ -10,7 +39,7 @@ pub fn bit(bytes: &[u8], nth: usize) -> Option<bool>
     if place / 8 >= bytes.len() {
         return None;
     }
-    Some((bytes[place / 8] >> (7 - place % 8)) & 1 == 1)
+    Some(is_set(bytes, place))
 }
 
 // Flips the bit with that number and answers what it is now; where there is no such bit nothing changes.
@@ -19,8 +48,7 @@ pub fn flip(bytes: &mut [u8], nth: usize) -> Option<bool>
     ensures answers_the_new_bit { λ r. ⌜ r ≡ bit-number (bits (now (bytes .exit))) nth ⌝ }
 {
     let old = bit(bytes, nth)?;
-    let place = nth - 1;
-    bytes[place / 8] = bytes[place / 8] ^ (1 << (7 - place % 8));
+    put(bytes, nth - 1, !old);
     Some(!old)
 }
 
@@ -63,7 +91,7 @@ pub fn number(bytes: &[u8], skip: usize, count: u32) -> Option<u16>
         if at >= bytes.len() {
             return None;
         }
-        value = value * 2 + u16::from((bytes[at] >> (7 - offset % 8)) & 1);
+        value = value * 2 + u16::from(digit(bytes[at], offset));
     }
     Some(value)
 }

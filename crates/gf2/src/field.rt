@@ -3,7 +3,7 @@
 ghost use mathlib.Core.Path.{_≡_};
 ghost use Prim.Native.Nat.{_^_, _<_};
 ghost use lib.Dec.{ltb};
-ghost use Rattle.gf2.specs.Fields.{width as width-of, modulus-tail, element as element-of, field-of, sum as sum-in, alpha-times, product as product-in, power as power-in, inverse as inverse-in, Inverse};
+ghost use Rattle.gf2.specs.Fields.{width as width-of, modulus-tail, element as element-of, field-of, sum as sum-in, alpha, product as product-in, power as power-in, inverse as inverse-in, Is-inverse};
 
 // A field by the bits m of its elements.
 #[derive(Clone, Copy, PartialEq, Eq, Debug)]
@@ -78,7 +78,7 @@ impl Field {
 
     // alpha times a.
     pub fn times_alpha(self, a: u16) -> u16
-        ensures product_with_alpha { λ r. ⌜ r ≡ alpha-times self a ⌝ }
+        ensures product_with_alpha { λ r. ⌜ r ≡ product-in self alpha a ⌝ }
     {
         let top = self.width() - 1;
         let low = (a & ((1 << top) - 1)) << 1;
@@ -123,7 +123,7 @@ impl Field {
     // The element whose product with a is 1; none where a stands for 0.
     pub fn inverse(self, a: u16) -> Option<u16>
         ensures power_that_inverts { λ r. ⌜ r ≡ inverse-in self a ⌝ }
-        ensures gives_one_with_the_element { λ r. ⌜ Inverse self a r ⌝ }
+        ensures gives_one_with_the_element { λ r. ⌜ Is-inverse self a r ⌝ }
     {
         if self.element(a) == 0 {
             None

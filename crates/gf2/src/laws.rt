@@ -8,7 +8,7 @@ ghost use Rattle.gf2.specs.WordLaws.{Bits-of-bytes, Flipping, Distance-is-a-me
 
 pub fn laws_of_words()
     ensures bytes_hold_eight_bits_in_their_order { λ _. ⌜ Bits-of-bytes ⌝ }
-    ensures flipping_twice_changes_nothing { λ _. ⌜ Flipping ⌝ }
+    ensures flipping_changes_that_bit_alone_and_twice_nothing { λ _. ⌜ Flipping ⌝ }
     ensures distance_is_a_metric { λ _. ⌜ Distance-is-a-metric ⌝ }
     ensures words_are_numbers { λ _. ⌜ Words-are-numbers ⌝ }
 {}
@@ -21,6 +21,6 @@ pub fn laws_of_the_product()
 pub fn laws_of_the_five_fields()
     ensures each_is_a_field { λ _. ⌜ ((F : Field) → IsField (width F) (product F)) ⌝ }
     ensures alpha_runs_through_every_element_but_0 { λ _. ⌜ ((F : Field) → Alpha-generates (width F) (product F)) ⌝ }
-    ensures sums_of_powers_vanish_only_without_coefficients { λ _. ⌜ ((F : Field) → Vandermonde (width F) (product F)) ⌝ }
+    ensures sums_of_powers_vanish_only_with_zero_coefficients { λ _. ⌜ ((F : Field) → Vandermonde (width F) (product F)) ⌝ }
     ensures a_polynomial_has_at_most_its_degree_of_roots { λ _. ⌜ ((F : Field) → Few-roots (width F) (product F)) ⌝ }
 {}

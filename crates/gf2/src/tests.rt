@@ -1,4 +1,4 @@
-// Values from outside: the logarithms of the eight-bit field are those that QR codes use.
+// Few values, some from outside: QR codes use the powers of the eight-bit field.
 use crate::bits;
 use crate::field::Field;
 use crate::powers;
@@ -20,7 +20,7 @@ fn bits_are_counted_from_1_and_the_highest_comes_first() -> Result<(), Fail> {
 }
 
 #[test]
-fn powers_and_inverses_are_the_published_ones() -> Result<(), Fail> {
+fn powers_and_inverses_have_known_values() -> Result<(), Fail> {
     let field = Field::Eight;
     check_eq(field.power(2, 8), 29)?;
     check_eq(field.power(2, 12), 205)?;

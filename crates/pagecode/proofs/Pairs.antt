@@ -1,16 +1,16 @@
 -- The sum of products grows by one product with each pair of groups.
 use mathlib.Core.Path.{_≡_, refl, sym, ap, ap₂, _∙_}
 use mathlib.Core.Bool.{Bool, true, false, cond}
-use mathlib.Core.List.{List, [], _∷_}
+use mathlib.Core.List.{List, [], _∷_, _++_}
 use Prim.Native.Nat.{ℕ, zero, suc, _+_, _-_, _*_, _/_, _%_, _^_, _≤_, _<_}
-use native.Mathlib.Nat.{suc-mul, mul-le-mul-right, div-add-mod', mul-assoc, mul-div-cancel, mod-eq-of-lt, zero-lt-suc}
+use native.Mathlib.Nat.{suc-mul, mul-le-mul-right, div-add-mod', mul-assoc, mul-div-cancel, add-comm, add-mul-div-right, zero-div, mod-eq-of-lt, zero-lt-suc}
 use native.Mathlib.Numerals.{add-one}
 use native.Mathlib.Omega.{arith}
 use lib.Bits.{bitXor, xor-assoc, xor-zero-r, xor-lt}
 use lib.Dec.{leb}
 use lib.Pow.{pow-pos}
 use lib.ListN.{length, take, drop}
-use Rattle.std.proofs.shelf.Lists.{take-take, drop-drop, drop-take, length-take-le}
+use Rattle.std.proofs.shelf.Lists.{take-take, take-append-le, take-at, take-all, drop-drop, drop-take, drop-append-le, drop-at, length-take-le, length-drop, length-append, nil-from-length}
 use Rattle.std.proofs.shelf.Tests.{eq-eqb, le-leb, leb-true}
 use Rattle.std.specs.declared.option.Option.{Option}
 use Rattle.std.specs.declared.option.Option.the-variants.{None, Some}
@@ -19,6 +19,7 @@ use Rattle.gf2.specs.declared.field.Field.{Field}
 use Rattle.gf2.specs.Words.{number}
 use Rattle.gf2.specs.Fields.{top, width, field-of, sum, product}
 use Rattle.gf2.proofs.Five.{ring}
+use Rattle.pagecode.specs.GroupLaws.{Sum-over-pairs}
 use Rattle.pagecode.specs.Groups.{groups, sum-of-products, f, product-behind, pairs-of-groups, f-over, f-of-first}
 use Rattle.pagecode.specs.declared.nonlinear.Misfit.the-variants.{Length}
 
@@ -135,3 +136,59 @@ answers-f w k m F is h l =
   where
     fits : pairs-of-groups F w k ≡ true
     fits = ap (λ (b : Bool). cond b (leb k (length w)) false) (eq-eqb (k % (2 * width F)) 0 h) ∙ le-leb k (length w) l
+
+-- the sum over the pairs of a, and then over those of b
+joined : (m : ℕ → ℕ → ℕ) (r p n : ℕ) (a b : List Bool) → length a ≡ double p * r
+    → sum-of-products m (groups r (double p + n) (a ++ b)) ≡ bitXor (sum-of-products m (groups r (double p) a)) (sum-of-products m (groups r n b))
+unfolding sum-of-products groups
+joined m r zero n a b h =
+    ap₂ (λ (i : ℕ) (w : List Bool). sum-of-products m (groups r i w)) (let e : 0 + n ≡ n = omega arith in e)
+    (ap (λ (v : List Bool). v ++ b) (nil-from-length a (omega arith)))
+joined m r (suc p) n a b h =
+    let l : length a ≡ r + (r + double p * r) = omega (arith, suc-mul (suc (double p)) r, suc-mul (double p) r) in
+    let a1 = drop r a in
+    let l1 : length a1 ≡ r + double p * r = omega (arith, length-drop r a) in
+    ap (λ (i : ℕ). sum-of-products m (groups r i (a ++ b))) (let e : suc (suc (double p)) + n ≡ suc (suc (double p + n)) = omega arith in e)
+    ∙ ap₂ bitXor
+    (ap₂ (λ (x y : List Bool). m (number x) (number (take r y))) (take-append-le r a b (omega arith)) (drop-append-le r a b (omega arith))
+    ∙ ap (λ (x : List Bool). m (number (take r a)) (number x)) (take-append-le r a1 b (omega arith)))
+    (ap (λ (v : List Bool). sum-of-products m (groups r (double p + n) v))
+    (ap (drop r) (drop-append-le r a b (omega arith)) ∙ drop-append-le r a1 b (omega arith))
+    ∙ joined m r p n (drop r a1) b (omega (arith, length-drop r a1)))
+    ∙ sym (xor-assoc (m (number (take r a)) (number (take r a1))) (sum-of-products m (groups r (double p) (drop r a1))) (sum-of-products m (groups r n b)))
+
+adds-up : (F : Field) (a b : List Bool) → length a % (2 * width F) ≡ 0 → f F (a ++ b) ≡ bitXor (f F a) (f F b)
+adds-up F a b h =
+    let r = width F in
+    let p = length a / (2 * r) in
+    let l : length a ≡ double p * r = pairs-are (length a) r h in
+    let here : length a / r ≡ double p = ap (λ (x : ℕ). x / r) l ∙ mul-div-cancel (double p) (zero-lt-suc (top F)) in
+    let whole-length : length (a ++ b) / r ≡ double p + length b / r =
+    ap (λ (x : ℕ). x / r) (length-append a b ∙ ap (λ (x : ℕ). x + length b) l ∙ add-comm (double p * r) (length b))
+    ∙ add-mul-div-right (length b) (double p) (zero-lt-suc (top F)) ∙ add-comm (length b / r) (double p) in
+    ap (λ (i : ℕ). sum-of-products (product F) (groups r i (a ++ b))) whole-length
+    ∙ joined (product F) r p (length b / r) a b l
+    ∙ ap (λ (i : ℕ). bitXor (sum-of-products (product F) (groups r i a)) (f F b)) (sym here)
+
+pub sum-over-pairs : (F : Field) → Sum-over-pairs F
+sum-over-pairs F = record {
+  element = λ w. sum-lt F (groups (width F) (length w / width F) w);
+  of-nothing = nothing;
+  of-a-pair = λ a b la lb. pair a b la lb;
+  adds-up = adds-up F;
+}
+  where
+    nothing : f F [] ≡ 0
+    nothing = unfold sum-of-products groups in ap (λ (i : ℕ). sum-of-products (product F) (groups (width F) i [])) (zero-div (width F))
+
+    pair : (a b : List Bool) → length a ≡ width F → length b ≡ width F → f F (a ++ b) ≡ product F (number a) (number b)
+    pair a b la lb =
+        let r = width F in
+        let two : length (a ++ b) / r ≡ 2 =
+        ap (λ (x : ℕ). x / r) (length-append a b ∙ (let e : length a + length b ≡ 2 * r = omega arith in e)) ∙ mul-div-cancel 2 (zero-lt-suc (top F)) in
+        ap (λ (i : ℕ). sum-of-products (product F) (groups r i (a ++ b))) two ∙ one-pair
+        ∙ ap₂ (λ (x y : List Bool). product F (number x) (number (take r y))) (take-at a b r la) (drop-at a b r la)
+        ∙ ap (λ (y : List Bool). product F (number a) (number y)) (take-all r b (omega arith))
+      where
+        one-pair : sum-of-products (product F) (groups (width F) 2 (a ++ b)) ≡ product F (number (take (width F) (a ++ b))) (number (take (width F) (drop (width F) (a ++ b))))
+        one-pair = unfold sum-of-products groups in xor-zero-r (product F (number (take (width F) (a ++ b))) (number (take (width F) (drop (width F) (a ++ b)))))

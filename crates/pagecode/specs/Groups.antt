@@ -1,6 +1,6 @@
 -- The nonlinear bits f of a run of bits: cut it into groups s1, s2, .. of r2 bits, each an element of the field of 2^r2 elements;
 -- f = s1•s2 + s3•s4 + ..
-use mathlib.Core.Bool.{Bool, true, false, cond}
+use mathlib.Core.Bool.{Bool, false, cond}
 use mathlib.Core.List.{List, [], _∷_}
 use Prim.Native.Nat.{ℕ, zero, suc, _+_, _*_, _/_, _%_}
 use lib.Bits.{bitXor}

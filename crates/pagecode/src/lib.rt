@@ -1,4 +1,6 @@
-// The page code: words built over an inner code, with bits that are no linear function of the message.
+// The page code: words with check bits that are no linear function of the message.
+pub mod laws;
+pub mod message;
 pub mod nonlinear;
 #[cfg(test)]
 mod tests;

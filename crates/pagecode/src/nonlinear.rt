@@ -1,11 +1,8 @@
 // The nonlinear bits of a word: the sum of the products of neighbouring groups.
 ghost use mathlib.Core.Path.{_≡_};
-ghost use mathlib.Core.Bool.{cond};
 ghost use Prim.Native.Nat.{_+_, _*_, _^_, _<_};
-ghost use lib.Dec.{leb};
-ghost use lib.ListN.{length, take, drop};
-ghost use Rattle.std.specs.declared.option.Option.the-variants.{None, Some};
-ghost use Rattle.gf2.specs.Words.{bits, number as number-of};
+ghost use Rattle.std.specs.declared.option.Option.the-variants.{Some};
+ghost use Rattle.gf2.specs.Words.{bits};
 ghost use Rattle.gf2.specs.Fields.{width as width-of, product};
 ghost use Rattle.pagecode.specs.Groups.{f-of-first, product-behind};
 use gf2::bits::number;

@@ -1,32 +1,17 @@
 // Works out the nonlinear check bits of a message, and prints each step.
 mod show;
 
-use gf2::bits::bit;
-use gf2::bits::flip;
+use gf2::bits::is_set;
 use gf2::bits::number;
 use gf2::field::Field;
+use pagecode::message::inner_data;
+use pagecode::message::with_added;
 use pagecode::nonlinear::nonlinear_bits;
 use show::Bits;
 use show::BitsDisplay;
 use show::Element;
 use show::ElementDisplay;
-use std::alloc::AllocError;
-use std::alloc::Global;
 use std::error::AnyError;
-
-// v_k of a message of a bit u and `count` bits behind it: those bits, with u added to the first.
-fn inner_data(heap: Global, message: &[u8], count: usize) -> Result<Vec<u8>, AllocError> {
-    let mut data = vec![in heap; 0u8; message.len()]?;
-    for before in 0..count {
-        if bit(message, before.saturating_add(2)) == Some(true) {
-            let _ = flip(&mut data, before.saturating_add(1));
-        }
-    }
-    if bit(message, 1) == Some(true) {
-        let _ = flip(&mut data, 1);
-    }
-    Ok(data)
-}
 
 // The group with that number, counted from 0; past the end it is 0.
 fn group(data: &[u8], index: usize, field: Field) -> u16 {
@@ -75,7 +60,10 @@ fn explain(rt: &LibcRuntime, message: &[u8], bits: usize, field: Field) -> Resul
         count: 1,
     };
     println!(rt, "u {u}")?;
-    let data = inner_data(rt.alloc(), message, count)?;
+    let mut data = vec![in rt.alloc(); 0u8; message.len()]?;
+    if !inner_data(message, count, &mut data) {
+        return Err("the message is too short".into());
+    }
     let v = Bits {
         bytes: &data,
         count,
@@ -87,13 +75,8 @@ fn explain(rt: &LibcRuntime, message: &[u8], bits: usize, field: Field) -> Resul
     };
     let f = Element { value: sum, width };
     println!(rt, "f {f}")?;
-    let all_u = if bit(message, 1) == Some(true) {
-        u16::MAX
-    } else {
-        0
-    };
     let last = Element {
-        value: field.sum(sum, all_u),
+        value: with_added(field, sum, is_set(message, 0)),
         width,
     };
     println!(rt, "f with u added {last}")?;

@@ -1,5 +1,5 @@
 // Bits and elements as text of 0 and 1.
-use gf2::bits::bit;
+use gf2::bits::is_set;
 use std::fmt;
 
 // The first `count` bits of bytes.
@@ -11,12 +11,8 @@ pub struct Bits<'a> {
 
 pub impl fmt::Display for Bits<'_> as BitsDisplay {
     fn fmt<W: fmt::Write>(&self, f: &mut fmt::Formatter<W>) -> fmt::Result {
-        for before in 0..self.count {
-            let digit = if bit(self.bytes, before + 1) == Some(true) {
-                '1'
-            } else {
-                '0'
-            };
+        for skip in 0..self.count {
+            let digit = if is_set(self.bytes, skip) { '1' } else { '0' };
             write!(f, "{digit}")?;
         }
         Ok(())

@@ -1,12 +1,9 @@
 use mathlib.Core.Path.{_≡_, sym, ap, _∙_}
-use Prim.Native.Nat.{ℕ, suc, _/_, _%_, _^_, _-_, _<_}
+use Prim.Native.Nat.{suc, _-_}
 use native.Mathlib.Omega.{arith}
-use lib.Bits.{and-mask}
-use lib.Dec.{eqb}
-use lib.ListN.{length, getD}
 use Rattle.std.specs.declared.option.Option.the-variants.{Some}
 use Rattle.gf2.specs.Words.{bits, bit-number}
-use Rattle.gf2.proofs.Numbered.{bit-number-zero, bit-number-at, bit-number-past, byte-bit, inside-bytes, past-bytes}
+use Rattle.gf2.proofs.Numbered.{bit-number-zero, bit-number-at, bit-number-past, inside-bytes, past-bytes}
 use Rattle.gf2.proofs.bits.bit.Needs as need
 
 pub returns-in-Break-place : need.returns-in-Break-place
@@ -30,6 +27,5 @@ returns c =
     let h = c .if-place-bytes .left in
     record {
       that-bit-or-none =
-          ap Some (ap (λ (x : ℕ). eqb x 1) (and-mask (getD bs (i / 8) 0 / 2 ^ (7 - i % 8)) 1) ∙ sym (byte-bit bs i h))
-          ∙ sym (bit-number-at (bits bs) i (inside-bytes bs i h)) ∙ ap (bit-number (bits bs)) e;
+          ap Some (c .is-set .ensures .the-bit-there) ∙ sym (bit-number-at (bits bs) i (inside-bytes bs i h)) ∙ ap (bit-number (bits bs)) e;
     }

@@ -5,7 +5,6 @@ use Prim.Native.Nat.{ℕ, _+_, _-_, _*_, _/_, _%_, _^_, _<_, _≤_}
 use native.Mathlib.Nat.{pow-suc, mod-lt, zero-lt-suc}
 use native.Mathlib.Numerals.{add-one}
 use native.Mathlib.Omega.{arith}
-use lib.Bits.{and-mask}
 use lib.Dec.{leb}
 use lib.ListN.{length, take, drop, getD}
 use Rattle.std.proofs.shelf.Tests.{lt-leb}
@@ -42,7 +41,7 @@ loop-done-again c =
     let at : s / 8 + o / 8 ≡ (s + j) / 8 = omega arith in
     let offset : o % 8 ≡ (s + j) % 8 = omega arith in
     let h : (s + j) / 8 < length bs = omega (arith, c .if-at-bytes .left) in
-    let is : c .from .result ≡ x % 2 = c .from .ensures ∙ and-mask x 1 in
+    let is : c .from .result ≡ x % 2 = c .from .ensures ∙ c .digit .ensures .value-of-the-bit in
     let low : x % 2 < 2 = mod-lt x (zero-lt-suc 1) in
     let two : 2 ^ (j + 1) ≡ 2 ^ j * 2 = ap (λ (i : ℕ). 2 ^ i) (add-one j) ∙ pow-suc 2 j in
     let same : x % 2 ≡ getD bs ((s + j) / 8) 0 / 2 ^ (7 - (s + j) % 8) % 2 = ap₂ (λ (i k : ℕ). getD bs i 0 / 2 ^ (7 - k) % 2) at offset in

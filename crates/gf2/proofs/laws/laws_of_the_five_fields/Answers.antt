@@ -8,6 +8,6 @@ pub returns : need.returns
 returns c = record {
   each-is-a-field = field;
   alpha-runs-through-every-element-but-0 = alpha-generates;
-  sums-of-powers-vanish-only-without-coefficients = λ F. vandermonde (width F) (product F) (field F);
+  sums-of-powers-vanish-only-with-zero-coefficients = λ F. vandermonde (width F) (product F) (field F);
   a-polynomial-has-at-most-its-degree-of-roots = λ F. few-roots (width F) (product F) (field F);
 }

@@ -1,13 +1,12 @@
-use mathlib.Core.Path.{_≡_, refl, sym, ap, _∙_, subst}
+use mathlib.Core.Path.{_≡_, sym, ap, _∙_, subst}
 use mathlib.Core.Bool.{Bool, cond}
 use mathlib.Core.Logic.{_≢_}
 use Prim.Native.Nat.{ℕ, _-_, _*_, _%_, _^_, _<_}
 use native.Mathlib.Omega.{arith}
 use Rattle.std.proofs.shelf.Bits.{one-shl}
 use Rattle.std.proofs.shelf.Tests.{ne-eqb}
-use Rattle.std.specs.declared.option.Option.{Option}
 use Rattle.std.specs.declared.option.Option.the-variants.{None, Some}
-use Rattle.gf2.specs.Fields.{width, element, product, power, IsField}
+use Rattle.gf2.specs.Fields.{width, element, product, power}
 use Rattle.gf2.proofs.Five.{field, inverts, widths}
 use Rattle.gf2.proofs.PowerLaws as powers
 use Rattle.gf2.proofs.field.Field.inverse.Needs as need
@@ -25,7 +24,7 @@ returns-else-element-eq0 c =
       power-that-inverts =
           ap Some is ∙ sym (ap (λ (b : Bool). cond b None (Some (power F a (2 ^ width F - 2)))) (ne-eqb (element F a) 0 some));
       gives-one-with-the-element = (
-        subst (λ (x : ℕ). x < 2 ^ width F) (sym is) (powers.power-lt (width F) (product F) (field F .ring) (field F .two) a (2 ^ width F - 2)),
+        subst (λ (x : ℕ). x < 2 ^ width F) (sym is) (powers.power-lt (width F) (product F) (field F .ring) (field F .nontrivial) a (2 ^ width F - 2)),
         ap (product F a) is ∙ inverts F a some,
       );
     }

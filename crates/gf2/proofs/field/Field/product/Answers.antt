@@ -1,11 +1,12 @@
-use mathlib.Core.Path.{_≡_, refl, sym, ap, ap₂, _∙_}
+use mathlib.Core.Path.{_≡_, sym, ap, ap₂, _∙_}
 use Prim.Native.Nat.{ℕ, suc, _+_, _-_, _/_, _%_, _^_, _<_, _≤_}
 use native.Mathlib.Omega.{arith}
 use native.Mathlib.Nat.{div-one}
 use lib.Pow.{shr-shr}
 use lib.Bits.{bitXor, xor-zero-r}
 use Rattle.gf2.specs.Product.{times-x, if-set, sum-of-shifts, times}
-use Rattle.gf2.specs.Fields.{top, modulus-tail, width, element, alpha-times, product}
+use Rattle.gf2.specs.Fields.{top, modulus-tail, element}
+use Rattle.gf2.proofs.Five.{times-alpha}
 use Rattle.gf2.proofs.Masks.{set-bit, clear-bit}
 use Rattle.gf2.proofs.field.Field.product.Needs as need
 
@@ -40,7 +41,7 @@ loop-i-again-then-b-i-eq1 c =
     let F = c .args .self in
     let a = element F (c .args .a) in
     let i = c .loop-i .i in
-    ap₂ bitXor (c .times-alpha-sum .ensures .product-with-alpha ∙ ap (alpha-times F) (c .loop-i .inv))
+    ap₂ bitXor (c .times-alpha-sum .ensures .product-with-alpha ∙ sym (times-alpha F (c .loop-i .sum)) ∙ ap (times-x (top F) (modulus-tail F)) (c .loop-i .inv))
     (c .element-element .ensures .low-bits ∙ set-bit (c .args .b / 2 ^ (i - 1)) a (c .if-b-i-eq1 .taken))
     ∙ turn (top F) (modulus-tail F) a (c .args .b) i (c .loop-i-test .taken) (omega (arith, c .loop-i .kept .i, c .width-i .ensures .bits-of-an-element))
 
@@ -50,7 +51,7 @@ loop-i-again c =
     let a = element F (c .args .a) in
     let i = c .loop-i .i in
     sym (xor-zero-r (c .times-alpha-sum .result))
-    ∙ ap₂ bitXor (c .times-alpha-sum .ensures .product-with-alpha ∙ ap (alpha-times F) (c .loop-i .inv))
+    ∙ ap₂ bitXor (c .times-alpha-sum .ensures .product-with-alpha ∙ sym (times-alpha F (c .loop-i .sum)) ∙ ap (times-x (top F) (modulus-tail F)) (c .loop-i .inv))
     (clear-bit (c .args .b / 2 ^ (i - 1)) a (c .if-b-i-eq1 .left))
     ∙ turn (top F) (modulus-tail F) a (c .args .b) i (c .loop-i-test .taken) (omega (arith, c .loop-i .kept .i, c .width-i .ensures .bits-of-an-element))
 

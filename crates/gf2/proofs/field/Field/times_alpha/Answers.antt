@@ -5,7 +5,7 @@ use native.Mathlib.Omega.{arith}
 use lib.Bits.{bitAnd, bitXor, xor-zero-r}
 use Rattle.gf2.specs.Fields.{top, modulus-tail}
 use Rattle.gf2.specs.Product.{times-x}
-use Rattle.gf2.proofs.Five.{widths}
+use Rattle.gf2.proofs.Five.{widths, times-alpha}
 use Rattle.gf2.proofs.Masks.{low-bits-up, set-bit, clear-bit}
 use Rattle.gf2.proofs.field.Field.times_alpha.Needs as need
 
@@ -20,7 +20,7 @@ returns-then-a-top-eq1 c =
     let is-set : bitAnd (a / 2 ^ top F) 1 ≡ 1 = subst (λ (k : ℕ). bitAnd (a / 2 ^ k) 1 ≡ 1) n (c .if-a-top-eq1 .taken) in
     record {
       product-with-alpha =
-          ap₂ bitXor up (c .modulus-tail .ensures .lower-terms-of-the-modulus ∙ set-bit (a / 2 ^ top F) (modulus-tail F) is-set);
+          ap₂ bitXor up (c .modulus-tail .ensures .lower-terms-of-the-modulus ∙ set-bit (a / 2 ^ top F) (modulus-tail F) is-set) ∙ times-alpha F a;
     }
 
 pub returns-else-a-top-eq1 : need.returns-else-a-top-eq1
@@ -33,5 +33,5 @@ returns-else-a-top-eq1 c =
     ap (λ (k : ℕ). (bitAnd a ((1 * 2 ^ k) % 2 ^ 16 - 1)) * 2 % 2 ^ 16) n ∙ low-bits-up (top F) a (omega (arith, widths F .1)) in
     let is-clear : bitAnd (a / 2 ^ top F) 1 ≢ 1 = subst (λ (k : ℕ). bitAnd (a / 2 ^ k) 1 ≢ 1) n (c .if-a-top-eq1 .left) in
     record {
-      product-with-alpha = up ∙ sym (xor-zero-r ((a % 2 ^ top F) * 2)) ∙ ap (bitXor ((a % 2 ^ top F) * 2)) (clear-bit (a / 2 ^ top F) (modulus-tail F) is-clear);
+      product-with-alpha = up ∙ sym (xor-zero-r ((a % 2 ^ top F) * 2)) ∙ ap (bitXor ((a % 2 ^ top F) * 2)) (clear-bit (a / 2 ^ top F) (modulus-tail F) is-clear) ∙ times-alpha F a;
     }
