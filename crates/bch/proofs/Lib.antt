@@ -2,3 +2,8 @@ pub mod Kernel
 pub mod Decoder
 pub mod Unique
 pub mod Remainder
+pub mod Points
+pub mod Generator
+pub mod Settings
+pub mod Inner
+pub mod Horner

@@ -7,8 +7,12 @@ use Prim.Native.Nat.{ℕ, zero, suc, _+_, _≤_}
 use lib.ListN.{length}
 use lib.Bits.{bitXor}
 use lib.Dec.{eqb, leb}
+use Rattle.std.specs.Options.{valueOr}
+use Rattle.gf2.specs.declared.field.Field.{Field}
+use Rattle.gf2.specs.Fields.{inverse}
 use Rattle.gf2.specs.Words.{add, weight}
 use Rattle.gf2.specs.Polynomials.{power}
+use Rattle.bch.specs.Code.{syndrome}
 use Rattle.bch.specs.Elimination.{against, met-all, units}
 
 -- the sum of the powers j of the points of the set bits: the syndrome j
@@ -46,3 +50,12 @@ decode m inv a t r =
     let e = flips m inv a t r in
     let c = add r e in
     cond (leb (weight e) t) (cond (sums-are-0 m a c 1 (t + t)) (found c) none) none
+
+-- the inverse, and 0 for 0
+abbrev pub inverse-or-0 : Field → ℕ → ℕ
+inverse-or-0 F a = valueOr (inverse F a) 0
+
+-- the syndromes j, j+1 and so on, n of them, are 0
+unfoldable pub syndromes-vanish : Field → List Bool → ℕ → ℕ → Bool
+syndromes-vanish F w j zero = true
+syndromes-vanish F w j (suc n) = cond (eqb (syndrome F w j) 0) (syndromes-vanish F w (suc j) n) false

@@ -3,3 +3,6 @@ pub mod Elimination
 pub mod Decoding
 pub mod Checks
 pub mod Orbits
+pub mod Settings
+pub mod Nearest
+pub mod InnerLaws

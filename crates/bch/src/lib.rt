@@ -1,4 +1,6 @@
 // BCH codes: check bits, and the codeword at most t bits away.
-pub fn nothing() -> u8 {
-    0
-}
+mod code;
+mod encode;
+mod syndrome;
+
+pub use code::Bch;

@@ -2,7 +2,8 @@
 ghost use mathlib.Core.Path.{_≡_};
 ghost use mathlib.Core.Bool.{false};
 ghost use Prim.Native.Nat.{_-_, _/_, _%_, _^_};
-ghost use lib.ListN.{getD, set};
+ghost use lib.Dec.{leb};
+ghost use lib.ListN.{getD, length, set};
 ghost use Rattle.gf2.specs.Words.{bits, bit-number, flipped, weight as weight-of, byte-distance, number-behind};
 
 // The bit at a place of a byte, counted from 0, the most significant first; the place counts modulo 8.
@@ -10,6 +11,17 @@ fn digit(byte: u8, place: usize) -> u8
     ensures value_of_the_bit { λ r. ⌜ r ≡ byte / 2 ^ (7 - place % 8) % 2 ⌝ }
 {
     (byte >> (7 - place % 8)) % 2
+}
+
+// Whether the bytes hold that many bits.
+pub fn holds(bytes: &[u8], count: usize) -> bool
+    ensures at_least_that_many_bits { λ r. ⌜ r ≡ leb count (length (bits (now (bytes .entry)))) ⌝ }
+{
+    if count % 8 == 0 {
+        count / 8 <= bytes.len()
+    } else {
+        count / 8 < bytes.len()
+    }
 }
 
 // Whether the bit behind the first `skip` is set; past the end none is.

@@ -2,25 +2,14 @@
 ghost use mathlib.Core.Path.{_≡_};
 ghost use mathlib.Core.List.{_++_};
 ghost use Prim.Native.Nat.{_+_, _^_, _≤_, _<_};
-ghost use lib.Dec.{leb};
 ghost use lib.ListN.{length, take, drop};
 ghost use Rattle.gf2.specs.Words.{bits, bits-of};
 ghost use Rattle.gf2.specs.Fields.{width};
 ghost use Rattle.pagecode.specs.InnerData.{each, data-fits, with-inner-data};
+use gf2::bits::holds;
 use gf2::bits::is_set;
 use gf2::bits::put;
 use gf2::field::Field;
-
-// Whether bytes hold that many bits.
-fn holds(bytes: &[u8], count: usize) -> bool
-    ensures at_least_that_many_bits { λ r. ⌜ r ≡ leb count (length (bits (now (bytes .entry)))) ⌝ }
-{
-    if count % 8 == 0 {
-        count / 8 <= bytes.len()
-    } else {
-        count / 8 < bytes.len()
-    }
-}
 
 // Copies the bits behind the first one.
 fn copy_behind_first(message: &[u8], count: usize, out: &mut [u8])

@@ -14,5 +14,5 @@ returns c =
     record {
       low-bits =
           ap (λ (k : ℕ). bitAnd a ((1 * 2 ^ k) % 2 ^ 16 - 1)) (c .width .ensures .bits-of-an-element)
-          ∙ low-bits (width F) a (omega (arith, widths F .1));
+          ∙ low-bits 16 (width F) a (omega (arith, widths F .1));
     }

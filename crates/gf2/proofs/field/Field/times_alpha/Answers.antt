@@ -16,7 +16,7 @@ returns-then-a-top-eq1 c =
     let a = c .args .a in
     let n : c .width-top .result - 1 ≡ top F = omega (arith, c .width-top .ensures .bits-of-an-element) in
     let up : (bitAnd a ((1 * 2 ^ (c .width-top .result - 1)) % 2 ^ 16 - 1)) * 2 % 2 ^ 16 ≡ (a % 2 ^ top F) * 2 =
-    ap (λ (k : ℕ). (bitAnd a ((1 * 2 ^ k) % 2 ^ 16 - 1)) * 2 % 2 ^ 16) n ∙ low-bits-up (top F) a (omega (arith, widths F .1)) in
+    ap (λ (k : ℕ). (bitAnd a ((1 * 2 ^ k) % 2 ^ 16 - 1)) * 2 % 2 ^ 16) n ∙ low-bits-up 16 (top F) a (omega (arith, widths F .1)) in
     let is-set : bitAnd (a / 2 ^ top F) 1 ≡ 1 = subst (λ (k : ℕ). bitAnd (a / 2 ^ k) 1 ≡ 1) n (c .if-a-top-eq1 .taken) in
     record {
       product-with-alpha =
@@ -30,7 +30,7 @@ returns-else-a-top-eq1 c =
     let a = c .args .a in
     let n : c .width-top .result - 1 ≡ top F = omega (arith, c .width-top .ensures .bits-of-an-element) in
     let up : (bitAnd a ((1 * 2 ^ (c .width-top .result - 1)) % 2 ^ 16 - 1)) * 2 % 2 ^ 16 ≡ (a % 2 ^ top F) * 2 =
-    ap (λ (k : ℕ). (bitAnd a ((1 * 2 ^ k) % 2 ^ 16 - 1)) * 2 % 2 ^ 16) n ∙ low-bits-up (top F) a (omega (arith, widths F .1)) in
+    ap (λ (k : ℕ). (bitAnd a ((1 * 2 ^ k) % 2 ^ 16 - 1)) * 2 % 2 ^ 16) n ∙ low-bits-up 16 (top F) a (omega (arith, widths F .1)) in
     let is-clear : bitAnd (a / 2 ^ top F) 1 ≢ 1 = subst (λ (k : ℕ). bitAnd (a / 2 ^ k) 1 ≢ 1) n (c .if-a-top-eq1 .left) in
     record {
       product-with-alpha = up ∙ sym (xor-zero-r ((a % 2 ^ top F) * 2)) ∙ ap (bitXor ((a % 2 ^ top F) * 2)) (clear-bit (a / 2 ^ top F) (modulus-tail F) is-clear) ∙ times-alpha F a;

@@ -6,9 +6,9 @@ use native.Mathlib.Omega.{arith}
 use lib.Dec.{leb}
 use lib.ListN.{length}
 use Rattle.std.proofs.shelf.Tests.{leb-true, leb-false, le-leb, lt-leb}
 use Rattle.gf2.specs.Words.{bits}
 use Rattle.gf2.proofs.Places.{bits-length}
-use Rattle.pagecode.proofs.message.holds.Needs as need
+use Rattle.gf2.proofs.bits.holds.Needs as need
 
 -- two tests that hold together
 same : (a b c d : ℕ) → (a ≤ b → c ≤ d) → (c ≤ d → a ≤ b) → leb a b ≡ leb c d
