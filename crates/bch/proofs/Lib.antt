@@ -7,3 +7,5 @@ pub mod Generator
 pub mod Settings
 pub mod Inner
 pub mod Horner
+pub mod Rows
+pub mod Padded

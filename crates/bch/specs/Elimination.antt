@@ -4,6 +4,7 @@ use Prim.Native.Nat.{ℕ, zero, suc}
 use mathlib.Core.Bool.{true, false}
 use lib.Bits.{bitXor}
 use lib.Dec.{eqb}
+use lib.ListN.{getD}
 
 -- the coefficients against the sequence s from i on: the sum of c_k s(i+k)
 unfoldable pub against : (ℕ → ℕ → ℕ) → List ℕ → (ℕ → ℕ) → ℕ → ℕ
@@ -39,3 +40,13 @@ units (suc n) = (1 ∷ []) ∷ map (λ p. 0 ∷ p) (units n)
 abbrev pub Every {ℓ} : {A : Type ℓ} → (A → Type 0) → List A → Type 0
 Every P [] = Unit
 Every P (x ∷ xs) = P x × Every P xs
+
+-- an array as a sequence
+abbrev pub sequence : List ℕ → ℕ → ℕ
+sequence s k = getD s k 0
+
+-- 1, z and so on to z^5, each with six coefficients
+abbrev pub unit-rows : List (List ℕ)
+unit-rows =
+    (1 ∷ 0 ∷ 0 ∷ 0 ∷ 0 ∷ 0 ∷ []) ∷ (0 ∷ 1 ∷ 0 ∷ 0 ∷ 0 ∷ 0 ∷ []) ∷ (0 ∷ 0 ∷ 1 ∷ 0 ∷ 0 ∷ 0 ∷ []) ∷ (0 ∷ 0 ∷ 0 ∷ 1 ∷ 0 ∷ 0 ∷ [])
+    ∷ (0 ∷ 0 ∷ 0 ∷ 0 ∷ 1 ∷ 0 ∷ []) ∷ (0 ∷ 0 ∷ 0 ∷ 0 ∷ 0 ∷ 1 ∷ []) ∷ []

@@ -1,5 +1,6 @@
 // BCH codes: check bits, and the codeword at most t bits away.
 mod code;
+mod eliminate;
 mod encode;
 mod syndrome;
 
