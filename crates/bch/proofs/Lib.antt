@@ -9,3 +9,5 @@ pub mod Inner
 pub mod Horner
 pub mod Rows
 pub mod Padded
+pub mod Flips
+pub mod Correcting

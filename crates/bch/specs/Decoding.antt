@@ -9,7 +9,7 @@ use lib.Bits.{bitXor}
 use lib.Dec.{eqb, leb}
 use Rattle.std.specs.Options.{valueOr}
 use Rattle.gf2.specs.declared.field.Field.{Field}
-use Rattle.gf2.specs.Fields.{inverse}
+use Rattle.gf2.specs.Fields.{alpha, product, power as power-in, inverse}
 use Rattle.gf2.specs.Words.{add, weight}
 use Rattle.gf2.specs.Polynomials.{power}
 use Rattle.bch.specs.Code.{syndrome}
@@ -59,3 +59,11 @@ inverse-or-0 F a = valueOr (inverse F a) 0
 unfoldable pub syndromes-vanish : Field → List Bool → ℕ → ℕ → Bool
 syndromes-vanish F w j zero = true
 syndromes-vanish F w j (suc n) = cond (eqb (syndrome F w j) 0) (syndromes-vanish F w (suc j) n) false
+
+-- all the polynomials are 0 at the point of the bit that has i bits behind it
+unfoldable pub root-at : Field → List (List ℕ) → ℕ → Bool
+root-at F ps i = all-vanish (product F) ps (power-in F alpha i)
+
+-- the n bits, marked where that is so
+abbrev pub root-marks : Field → List (List ℕ) → ℕ → List Bool
+root-marks F ps n = marks (root-at F ps) n

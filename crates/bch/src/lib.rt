@@ -2,6 +2,8 @@
 mod code;
 mod eliminate;
 mod encode;
+mod nearest;
+mod roots;
 mod syndrome;
 
 pub use code::Bch;
