@@ -8,7 +8,7 @@ use lib.Dec.{T, eqb, leb, leb→le, le→leb}
 use lib.ListN.{length, take, drop}
 use Rattle.gf2.specs.declared.field.Field.{Field}
 use Rattle.gf2.specs.Words.{plus, add, weight}
-use Rattle.gf2.specs.Fields.{width, product, power, alpha, IsField, IsRing}
+use Rattle.gf2.specs.Fields.{width, product, power, alpha}
 use Rattle.gf2.proofs.Five as five
 use Rattle.gf2.proofs.Sums.{add-nil, add-assoc, add-self, add-zeros, add-back}
 use Rattle.std.proofs.shelf.Lists.{length-take-le}
@@ -18,7 +18,7 @@ use Rattle.bch.specs.Code.{syndrome, Near}
 use Rattle.bch.specs.Settings.{field, errors, word-bits}
 use Rattle.bch.specs.Nearest.{Corrected, Left-alone}
 use Rattle.bch.specs.Elimination.{met-all, units, sequence, unit-rows}
-use Rattle.bch.specs.Decoding.{locator-sum, all-vanish, marks, sums-are-0, flips, decode, Answer, found, none, inverse-or-0, syndromes-vanish, root-at, root-marks}
+use Rattle.bch.specs.Decoding.{locator-sum, all-vanish, marks, sums-are-0, flips, decode, found, none, inverse-or-0, syndromes-vanish, root-at, root-marks}
 use Rattle.bch.proofs.Decoder as decoder
 use Rattle.bch.proofs.Flips.{marks-ext}
 use Rattle.bch.proofs.Padded.{same-roots}

@@ -1,8 +1,8 @@
 -- The laws of an inner code, for a BCH code in use.
 use mathlib.Core.Path.{_≡_, refl, sym, ap, ap₂, _∙_}
-use mathlib.Core.Bool.{Bool, true, false, cond}
-use mathlib.Core.List.{List, [], _∷_, _++_}
-use Prim.Native.Nat.{ℕ, zero, suc, _+_, _-_, _*_, _^_, _≤_, _<_}
+use mathlib.Core.Bool.{Bool, cond}
+use mathlib.Core.List.{List, [], _∷_}
+use Prim.Native.Nat.{ℕ, zero, suc, _+_, _-_, _*_, _^_, _≤_}
 use native.Mathlib.Nat.{lt-of-not-le}
 use native.Mathlib.Omega.{arith}
 use mathlib.Core.Logic.{_≢_}
@@ -12,7 +12,6 @@ use Rattle.gf2.specs.declared.field.Field.{Field}
 use Rattle.gf2.specs.Words.{plus, add, weight, distance, bits-of}
 use Rattle.gf2.specs.Polynomials.{power as power-under, All}
 use Rattle.gf2.specs.Fields.{width, product, power, alpha}
-use Rattle.gf2.specs.WordLaws.{Distance-is-a-metric}
 use Rattle.gf2.proofs.Five as five
 use Rattle.gf2.proofs.PowerLaws as powers
 use Rattle.gf2.proofs.Sums.{plus-self, add-length, bits-of-length}

@@ -1,5 +1,5 @@
 -- Polynomials with zeros behind them go through the elimination like those without.
-use mathlib.Core.Path.{_≡_, refl, sym, ap, ap₂, _∙_, subst}
+use mathlib.Core.Path.{_≡_, refl, ap, ap₂, _∙_}
 use mathlib.Core.Bool.{Bool, true, false, cond}
 use mathlib.Core.List.{List, [], _∷_, map}
 use Prim.Native.Nat.{ℕ, zero, suc, _+_, _-_, _≤_, _<_}
@@ -10,7 +10,7 @@ use lib.Dec.{eqb}
 use Rattle.gf2.specs.Polynomials.{power}
 use Rattle.bch.specs.Decoding.{all-vanish}
 use Rattle.bch.specs.Elimination.{against, add-scaled, cleared, met-one, met-all, units, Every}
-use Rattle.bch.specs.Elimination.{sequence, unit-rows}
+use Rattle.bch.specs.Elimination.{unit-rows}
 
 -- the polynomial with w coefficients
 unfoldable pub wide : ℕ → List ℕ → List ℕ

@@ -1,9 +1,9 @@
 -- The powers of alpha as the points of a word's bits.
 use mathlib.Core.Path.{_≡_, refl, sym, ap, ap₂, _∙_}
-use mathlib.Core.Bool.{Bool, cond, true, false}
+use mathlib.Core.Bool.{Bool, cond}
 use mathlib.Core.List.{List, [], _∷_}
 use mathlib.Core.Logic.{_≢_}
-use Prim.Native.Nat.{ℕ, suc, _-_, _%_, _^_, _≤_, _<_}
+use Prim.Native.Nat.{ℕ, _-_, _^_, _<_}
 use native.Mathlib.Nat.{mod-eq-of-lt}
 use native.Mathlib.Omega.{arith}
 use lib.ListN.{length}
@@ -11,11 +11,10 @@ use lib.Bits.{bitXor}
 use lib.Pow.{pow-lt}
 use Rattle.std.proofs.shelf.Tests.{ne-eqb}
 use Rattle.std.specs.Options.{valueOr}
-use Rattle.std.specs.declared.option.Option.{Option}
 use Rattle.std.specs.declared.option.Option.the-variants.{None, Some}
 use Rattle.gf2.specs.declared.field.Field.{Field}
 use Rattle.gf2.specs.Polynomials.{Nonzero}
-use Rattle.gf2.specs.Fields.{width, element, product, power, alpha, inverse, IsField, Alpha-generates}
+use Rattle.gf2.specs.Fields.{width, element, product, power, alpha}
 use Rattle.gf2.proofs.Five as five
 use Rattle.gf2.proofs.PowerLaws as powers
 use Rattle.gf2.proofs.Vandermonde as v

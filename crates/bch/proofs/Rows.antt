@@ -4,16 +4,14 @@ use mathlib.Core.Bool.{Bool, true, false, cond}
 use mathlib.Core.List.{List, [], _∷_, _++_}
 use mathlib.Core.Logic.{_≢_}
 use Prim.Native.Nat.{ℕ, zero, suc, _+_, _-_, _≤_, _<_}
-use native.Mathlib.Nat.{add-suc}
-use native.Mathlib.Numerals.{add-one}
 use native.Mathlib.Omega.{arith}
 use lib.ListN.{length, getD, set, take, drop}
 use lib.Bits.{bitXor}
 use lib.Dec.{T, eqb, eqb→eq}
-use Rattle.std.proofs.shelf.Lists.{append-nil, append-assoc, drop-all, drop-more, drop-set-lt, take-more, take-more-set, at-drop-all, length-set}
+use Rattle.std.proofs.shelf.Lists.{append-nil, append-assoc, drop-all, drop-more, drop-set-lt, take-more, take-more-set, at-drop-all}
 use Rattle.gf2.specs.Polynomials.{power}
 use Rattle.bch.specs.Decoding.{all-vanish}
-use Rattle.bch.specs.Elimination.{against, add-scaled, cleared, met-one, met-all}
+use Rattle.bch.specs.Elimination.{against, add-scaled, cleared, met-one}
 
 module _ (m : ℕ → ℕ → ℕ) where
   pub against-none : (xs : List ℕ) (s : ℕ → ℕ) (k i : ℕ) → length xs ≤ k → 0 ≡ against m (drop k xs) s i

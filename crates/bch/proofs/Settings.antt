@@ -1,6 +1,6 @@
 -- What holds of the codes in use: each fact is one computed test.
 use mathlib.Core.Path.{_≡_, refl}
-use Prim.Native.Nat.{ℕ, suc, _+_, _-_, _^_, _≤_, _<_}
+use Prim.Native.Nat.{_+_, _-_, _^_, _≤_, _<_}
 use lib.Dec.{T, lit<, lit≤}
 use lib.ListN.{length}
 use Rattle.gf2.specs.Product.{times-x, sum-of-shifts, times}

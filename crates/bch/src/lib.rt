@@ -2,8 +2,12 @@
 mod code;
 mod eliminate;
 mod encode;
+pub mod laws;
 mod nearest;
 mod roots;
 mod syndrome;
 
 pub use code::Bch;
+
+#[cfg(test)]
+mod tests;

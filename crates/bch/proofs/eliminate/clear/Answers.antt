@@ -1,8 +1,8 @@
-use mathlib.Core.Path.{_≡_, refl, sym, ap, ap₂, _∙_}
-use mathlib.Core.List.{List, [], _++_}
-use Prim.Native.Nat.{ℕ, _+_, _-_, _≤_, _<_}
+use mathlib.Core.Path.{_≡_, refl, ap, ap₂, _∙_}
+use mathlib.Core.List.{[], _++_}
+use Prim.Native.Nat.{ℕ, _+_, _-_}
 use native.Mathlib.Omega.{arith}
-use lib.ListN.{length, getD, take, drop}
+use lib.ListN.{getD, take, drop}
 use Rattle.std.proofs.shelf.Lists.{length-set}
 use Rattle.gf2.specs.Fields.{product}
 use Rattle.bch.specs.Elimination.{against, add-scaled, cleared}
@@ -39,7 +39,9 @@ returns c =
     let s = sequence (c .args .s .now) in
     let i = c .args .i in
     let first = getD (c .args .polys .now) (c .args .j) [] in
-    record { one-fewer =
-        rows.cleared-end m inv s i first (c .loop-k .polys)
-        (take (c .args .j) (c .args .polys .now) ++ cleared m inv s i first (take (c .args .count - 1 - c .args .j) (drop (c .args .j + 1) (c .args .polys .now))))
-        (c .args .count) (c .loop-k .k) (c .loop-k-test .left) (c .loop-k .kept .k-end (omega arith)) (c .loop-k .inv .1); }
+    record {
+      one-fewer =
+          rows.cleared-end m inv s i first (c .loop-k .polys)
+          (take (c .args .j) (c .args .polys .now) ++ cleared m inv s i first (take (c .args .count - 1 - c .args .j) (drop (c .args .j + 1) (c .args .polys .now))))
+          (c .args .count) (c .loop-k .k) (c .loop-k-test .left) (c .loop-k .kept .k-end (omega arith)) (c .loop-k .inv .1);
+    }

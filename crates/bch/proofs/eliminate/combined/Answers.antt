@@ -1,8 +1,8 @@
-use mathlib.Core.Path.{_≡_, refl, sym, ap, ap₂, _∙_, subst}
-use mathlib.Core.List.{List, _++_}
-use Prim.Native.Nat.{ℕ, _+_, _-_, _≤_, _<_}
+use mathlib.Core.Path.{_≡_, sym, _∙_, subst}
+use mathlib.Core.List.{_++_}
+use Prim.Native.Nat.{ℕ, _+_, _-_}
 use native.Mathlib.Omega.{arith}
-use lib.ListN.{length, getD, set, take, drop}
+use lib.ListN.{getD, set, take, drop}
 use lib.Bits.{bitXor}
 use Rattle.std.proofs.shelf.Lists.{length-set}
 use Rattle.gf2.specs.Fields.{product}
@@ -27,5 +27,7 @@ pub returns : need.returns
 returns c =
     let m = product (c .args .field) in
     let p = c .args .p .now in
-    record { scaled-sum =
-        rows.add-scaled-end m (c .args .a) p (c .loop-k .sum) (add-scaled m (c .args .a) p (c .args .q .now)) (c .loop-k .k) (omega arith) (omega (arith, c .loop-k .inv .0)) (c .loop-k .inv .1); }
+    record {
+      scaled-sum =
+          rows.add-scaled-end m (c .args .a) p (c .loop-k .sum) (add-scaled m (c .args .a) p (c .args .q .now)) (c .loop-k .k) (omega arith) (omega (arith, c .loop-k .inv .0)) (c .loop-k .inv .1);
+    }

@@ -1,11 +1,11 @@
-use mathlib.Core.Path.{_≡_, refl, sym, ap, ap₂, _∙_}
+use mathlib.Core.Path.{_≡_, sym, ap, _∙_}
 use mathlib.Core.List.{List}
 use Prim.Native.Nat.{ℕ, suc, _+_, _-_, _<_, _≤_}
 use native.Mathlib.Omega.{arith}
-use lib.ListN.{length, take}
+use lib.ListN.{take}
 use Rattle.gf2.specs.Fields.{product}
 use Rattle.bch.specs.Elimination.{met-one, met-all}
-use Rattle.bch.specs.Elimination.{sequence, unit-rows}
+use Rattle.bch.specs.Elimination.{sequence}
 use Rattle.bch.specs.Decoding.{inverse-or-0}
 use Rattle.bch.proofs.eliminate.solve.Needs as need
 
@@ -37,7 +37,9 @@ loop-i-again c =
 
 pub returns : need.returns
 returns c =
-    record { meet-all-equations =
-        end (product (c .args .field)) (inverse-or-0 (c .args .field)) (sequence (c .args .s .now)) (c .args .t) (c .loop-i .i)
-        (take (c .loop-i .count) (c .loop-i .polys)) (c .loop-i-test .left)
-        ∙ c .loop-i .inv .2; }
+    record {
+      meet-all-equations =
+          end (product (c .args .field)) (inverse-or-0 (c .args .field)) (sequence (c .args .s .now)) (c .args .t) (c .loop-i .i)
+          (take (c .loop-i .count) (c .loop-i .polys)) (c .loop-i-test .left)
+          ∙ c .loop-i .inv .2;
+    }

@@ -1,16 +1,16 @@
-use mathlib.Core.Path.{_≡_, refl, sym, ap, ap₂, _∙_}
+use mathlib.Core.Path.{_≡_, refl, sym, ap, _∙_}
 use mathlib.Core.Bool.{Bool, true, false, not}
 use mathlib.Core.List.{List}
-use Prim.Native.Nat.{ℕ, suc, _+_, _-_, _≤_, _<_}
+use Prim.Native.Nat.{ℕ, _+_, _-_}
 use native.Mathlib.Numerals.{add-one}
 use native.Mathlib.Omega.{arith}
-use lib.ListN.{length, getD, set, take}
+use lib.ListN.{set, take}
 use Rattle.gf2.specs.declared.field.Field.{Field}
 use Rattle.gf2.specs.Polynomials.{power as power-under}
-use Rattle.gf2.specs.Words.{bits, add, weight}
+use Rattle.gf2.specs.Words.{bits, weight}
 use Rattle.gf2.specs.Fields.{alpha, product, power}
-use Rattle.bch.specs.Decoding.{all-vanish, marks, root-at, root-marks}
-use Rattle.bch.proofs.Flips.{last-marks, flip-more, skip-more, flip-none, flip-all, count-more, count-same, count-none}
+use Rattle.bch.specs.Decoding.{all-vanish, marks, root-at}
+use Rattle.bch.proofs.Flips.{flip-more, skip-more, flip-none, flip-all, count-more, count-same, count-none}
 use Rattle.bch.proofs.roots.flip_roots.Needs as need
 use Rattle.bch.proofs.roots.flip_roots.Needs.{then-vanish-at, else-vanish-at}
 
@@ -48,22 +48,22 @@ loop-i-again c =
     let inv = c .loop-i .inv in
     let point = next-point F i (c .loop-i .point) (c .times-alpha-point .result) (inv .0) (c .times-alpha-point .ensures .product-with-alpha) in
     elim (c .if-vanish-at .came) [
-      then-vanish-at y ↦
-        let z = tested F ps i (c .loop-i .point) true (inv .0) (y .if-vanish-at .ensures tt .all-are-0-there) in (
-          point,
-          omega (arith, y .flips-is, inv .1),
-          y .flips-is ∙ ap (λ (x : ℕ). x + 1) (inv .2) ∙ count-more f i z,
-          ap bits (y .bytes-is) ∙ y .put .ensures .only-that-bit-is-set-so
-              ∙ ap (λ (b : Bool). set (bits (c .loop-i .bytes)) (n - 1 - i) (not b)) (y .is-set .ensures .the-bit-there)
-              ∙ flip-more f w (bits (c .loop-i .bytes)) n i (c .loop-i-test .taken) (c .pre .enough) z (inv .3),
-        )
+      | then-vanish-at y ↦
+          let z = tested F ps i (c .loop-i .point) true (inv .0) (y .if-vanish-at .ensures tt .all-are-0-there) in (
+            point,
+            omega (arith, y .flips-is, inv .1),
+            y .flips-is ∙ ap (λ (x : ℕ). x + 1) (inv .2) ∙ count-more f i z,
+            ap bits (y .bytes-is) ∙ y .put .ensures .only-that-bit-is-set-so
+                ∙ ap (λ (b : Bool). set (bits (c .loop-i .bytes)) (n - 1 - i) (not b)) (y .is-set .ensures .the-bit-there)
+                ∙ flip-more f w (bits (c .loop-i .bytes)) n i (c .loop-i-test .taken) (c .pre .enough) z (inv .3),
+          )
       | else-vanish-at y ↦
-        let z = tested F ps i (c .loop-i .point) false (inv .0) (y .if-vanish-at .ensures tt .all-are-0-there) in (
-          point,
-          omega (arith, y .flips-is, inv .1),
-          y .flips-is ∙ inv .2 ∙ count-same f i z,
-          ap bits (y .bytes-is) ∙ skip-more f w (bits (c .loop-i .bytes)) n i (c .loop-i-test .taken) z (inv .3),
-        )
+          let z = tested F ps i (c .loop-i .point) false (inv .0) (y .if-vanish-at .ensures tt .all-are-0-there) in (
+            point,
+            omega (arith, y .flips-is, inv .1),
+            y .flips-is ∙ inv .2 ∙ count-same f i z,
+            ap bits (y .bytes-is) ∙ skip-more f w (bits (c .loop-i .bytes)) n i (c .loop-i-test .taken) z (inv .3),
+          )
     ]
 
 pub returns : need.returns

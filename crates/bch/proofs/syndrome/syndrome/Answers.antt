@@ -1,6 +1,6 @@
-use mathlib.Core.Path.{_≡_, refl, sym, ap, ap₂, _∙_}
-use mathlib.Core.Bool.{Bool, true, false, cond}
-use mathlib.Core.List.{List, _∷_}
+use mathlib.Core.Path.{_≡_, sym, ap, ap₂, _∙_}
+use mathlib.Core.Bool.{Bool, false, cond}
+use mathlib.Core.List.{List}
 use Prim.Native.Nat.{ℕ, _+_, _≤_, _<_}
 use native.Mathlib.Omega.{arith}
 use lib.Bits.{bitXor, xor-zero-r}
@@ -36,7 +36,7 @@ loop-skip-again c =
     let s = c .loop-skip .sum in
     let v : c .if-is-set .sum ≡ bitXor (m z s) (cond (getD w i false) 1 0) =
     elim (c .if-is-set .came) [
-      then-is-set y ↦ y .sum-is ∙ ap₂ (λ (x : ℕ) (b : Bool). bitXor x (cond b 1 0)) (c .product-sum .ensures .product-of-the-elements) (y .if-is-set .ensures tt .the-bit-there)
+      | then-is-set y ↦ y .sum-is ∙ ap₂ (λ (x : ℕ) (b : Bool). bitXor x (cond b 1 0)) (c .product-sum .ensures .product-of-the-elements) (y .if-is-set .ensures tt .the-bit-there)
       | else-is-set y ↦ y .sum-is ∙ sym (xor-zero-r (c .product-sum .result))
           ∙ ap₂ (λ (x : ℕ) (b : Bool). bitXor x (cond b 1 0)) (c .product-sum .ensures .product-of-the-elements) (y .if-is-set .ensures tt .the-bit-there)
     ] in

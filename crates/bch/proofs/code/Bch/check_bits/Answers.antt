@@ -1,7 +1,7 @@
 use mathlib.Core.Path.{_≡_, sym, ap, _∙_, subst}
 use mathlib.Core.Bool.{Bool, true, cond}
-use mathlib.Core.List.{List, _++_}
-use Prim.Native.Nat.{ℕ, _+_, _-_, _≤_}
+use mathlib.Core.List.{_++_}
+use Prim.Native.Nat.{ℕ, _+_, _-_}
 use native.Mathlib.Omega.{arith}
 use lib.Dec.{leb}
 use lib.ListN.{length, take}
@@ -10,7 +10,7 @@ use Rattle.std.proofs.shelf.Tests.{leb-true}
 use Rattle.std.specs.declared.option.Option.the-variants.{None, Some}
 use Rattle.gf2.specs.Words.{bits, bits-of}
 use Rattle.bch.specs.Settings.{data-bits, check-bits, checks-number}
-use Rattle.bch.specs.InnerLaws.{Word-of, Inner-code}
+use Rattle.bch.specs.InnerLaws.{Word-of}
 use Rattle.bch.proofs.Inner.{inner-code}
 use Rattle.bch.proofs.code.Bch.check_bits.Needs as need
 

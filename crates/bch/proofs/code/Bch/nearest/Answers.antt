@@ -1,9 +1,8 @@
-use mathlib.Core.Path.{_≡_, refl, sym, ap, _∙_, subst}
-use mathlib.Core.Bool.{Bool, true, false}
+use mathlib.Core.Path.{_≡_, sym, subst}
+use mathlib.Core.Bool.{true, false}
 use mathlib.Core.List.{List}
 use Prim.Native.Nat.{ℕ, _+_, _≤_, _<_}
 use native.Mathlib.Omega.{arith}
-use lib.Dec.{leb}
 use lib.ListN.{length, take}
 use Rattle.std.proofs.shelf.Tests.{leb-true}
 use Rattle.gf2.specs.declared.field.Field.{Field}
@@ -13,8 +12,7 @@ use Rattle.gf2.proofs.Places.{bits-length}
 use Rattle.bch.specs.Code.{syndrome}
 use Rattle.bch.specs.Elimination.{met-all, sequence, unit-rows}
 use Rattle.bch.specs.Decoding.{inverse-or-0, syndromes-vanish, root-marks}
-use Rattle.bch.specs.Settings.{field, errors, word-bits}
-use Rattle.bch.specs.Nearest.{Corrected, Left-alone}
+use Rattle.bch.specs.Settings.{field}
 use Rattle.bch.proofs.Correcting.{accepted, too-many-flips, not-a-codeword}
 use Rattle.bch.proofs.Settings.{tested}
 use Rattle.bch.proofs.code.Bch.nearest.Needs as need
@@ -87,12 +85,12 @@ returns c =
     record {
       the-codeword-at-most-t-bits-away-or-none =
           elim (c .else-flips-t .came) [
-            else-flips-t·by·then-flips-t·else-is-codeword w ↦
-              not-a-codeword C B s ps enough agree solved A flipped
-              (at-code (λ F n t. syndromes-vanish F (take n A) 1 (t + t) ≡ false) eF en et (sym (w .if-is-codeword .ensures tt .all-syndromes-vanish))) L again
+            | else-flips-t·by·then-flips-t·else-is-codeword w ↦
+                not-a-codeword C B s ps enough agree solved A flipped
+                (at-code (λ F n t. syndromes-vanish F (take n A) 1 (t + t) ≡ false) eF en et (sym (w .if-is-codeword .ensures tt .all-syndromes-vanish))) L again
             | else-flips-t·by·else-flips-t w ↦
-              too-many-flips C B s ps enough agree solved A flipped (c .flip-roots-flips .result)
-              (at-code (λ F n t. c .flip-roots-flips .result ≡ weight (root-marks F ps n)) eF en et (c .flip-roots-flips .ensures .counts-the-roots))
-              (at-code (λ F n t. t < c .flip-roots-flips .result) eF en et (w .if-flips-t .left)) L again
+                too-many-flips C B s ps enough agree solved A flipped (c .flip-roots-flips .result)
+                (at-code (λ F n t. c .flip-roots-flips .result ≡ weight (root-marks F ps n)) eF en et (c .flip-roots-flips .ensures .counts-the-roots))
+                (at-code (λ F n t. t < c .flip-roots-flips .result) eF en et (w .if-flips-t .left)) L again
           ];
     }

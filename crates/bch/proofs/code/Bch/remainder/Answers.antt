@@ -1,6 +1,6 @@
-use mathlib.Core.Path.{_≡_, refl, sym, ap, ap₂, _∙_}
-use mathlib.Core.Bool.{Bool, true, false, cond}
-use mathlib.Core.List.{List, _∷_}
+use mathlib.Core.Path.{_≡_, sym, ap, ap₂, _∙_}
+use mathlib.Core.Bool.{Bool, false, cond}
+use mathlib.Core.List.{List}
 use Prim.Native.Nat.{ℕ, _+_, _≤_, _<_}
 use native.Mathlib.Omega.{arith}
 use lib.Bits.{bitXor, xor-zero-r}
@@ -36,12 +36,12 @@ loop-skip-again c =
     let i = c .loop-skip .skip in
     let v : c .if-is-set .register ≡ bitXor (times-x n g (c .loop-skip .register)) (cond (getD w i false) g 0) =
     elim (c .if-is-set .came) [
-      then-is-set y ↦
-        y .register-is ∙ ap₂ bitXor (c .times-x-register .ensures .moves-up-and-reduces)
-            (y .generator-tail-register .ensures .lower-terms-of-the-generator ∙ ap (λ (b : Bool). cond b g 0) (y .if-is-set .ensures tt .the-bit-there))
+      | then-is-set y ↦
+          y .register-is ∙ ap₂ bitXor (c .times-x-register .ensures .moves-up-and-reduces)
+          (y .generator-tail-register .ensures .lower-terms-of-the-generator ∙ ap (λ (b : Bool). cond b g 0) (y .if-is-set .ensures tt .the-bit-there))
       | else-is-set y ↦
-        y .register-is ∙ sym (xor-zero-r (c .times-x-register .result))
-            ∙ ap₂ bitXor (c .times-x-register .ensures .moves-up-and-reduces) (ap (λ (b : Bool). cond b g 0) (y .if-is-set .ensures tt .the-bit-there))
+          y .register-is ∙ sym (xor-zero-r (c .times-x-register .result))
+          ∙ ap₂ bitXor (c .times-x-register .ensures .moves-up-and-reduces) (ap (λ (b : Bool). cond b g 0) (y .if-is-set .ensures tt .the-bit-there))
     ] in
     turn n g (c .loop-skip .register) (c .if-is-set .register) w i (c .args .count) (checks-number C (take (c .args .count) w)) (c .loop-skip-test .taken) (c .pre .enough) v (c .loop-skip .inv)
 

@@ -1,8 +1,8 @@
-use mathlib.Core.Path.{_≡_, refl, sym, ap, ap₂, _∙_}
+use mathlib.Core.Path.{_≡_, sym, _∙_}
 use mathlib.Core.List.{List, []}
-use Prim.Native.Nat.{ℕ, _+_, _-_, _≤_, _<_}
+use Prim.Native.Nat.{ℕ, _-_, _<_}
 use native.Mathlib.Omega.{arith}
-use lib.ListN.{length, getD, take, drop}
+use lib.ListN.{length, getD, take}
 use Rattle.gf2.specs.Fields.{product}
 use Rattle.gf2.specs.Polynomials.{power}
 use Rattle.bch.specs.Elimination.{against}
@@ -23,8 +23,10 @@ returns-then-against-ne0 c =
     let n = c .args .self .now .count in
     let k = c .loop-k .k in
     let v = value m (getD ps k []) (c .powers-powers .result) y (c .against .result) (c .against .ensures .six-coefficients) (c .powers-powers .ensures .each-at-its-index) (c .against .ensures .sum-of-products) in
-    record { all-are-0-there =
-        rows.root-fails m y ps (all-vanish m (take n ps) y) n k (c .loop-k-test .taken) (omega arith) (λ e. c .if-against-ne0 .taken (v ∙ e)) (c .loop-k .inv); }
+    record {
+      all-are-0-there =
+          rows.root-fails m y ps (all-vanish m (take n ps) y) n k (c .loop-k-test .taken) (omega arith) (λ e. c .if-against-ne0 .taken (v ∙ e)) (c .loop-k .inv);
+    }
 
 pub loop-k-again : need.loop-k-again
 loop-k-again c =
@@ -41,5 +43,7 @@ returns c =
     let m = product (c .args .field) in
     let ps = c .args .self .now .polys in
     let n = c .args .self .now .count in
-    record { all-are-0-there =
-        rows.root-end m (c .args .y) ps (all-vanish m (take n ps) (c .args .y)) n (c .loop-k .k) (c .loop-k-test .left) (c .loop-k .inv); }
+    record {
+      all-are-0-there =
+          rows.root-end m (c .args .y) ps (all-vanish m (take n ps) (c .args .y)) n (c .loop-k .k) (c .loop-k-test .left) (c .loop-k .inv);
+    }
