@@ -11,3 +11,4 @@ pub mod Rows
 pub mod Padded
 pub mod Flips
 pub mod Correcting
+pub mod Runs

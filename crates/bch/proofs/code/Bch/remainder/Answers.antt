@@ -1,31 +1,27 @@
-use mathlib.Core.Path.{_≡_, sym, ap, ap₂, _∙_}
+use mathlib.Core.Path.{_≡_, refl, sym, ap, ap₂, _∙_}
 use mathlib.Core.Bool.{Bool, false, cond}
-use mathlib.Core.List.{List}
-use Prim.Native.Nat.{ℕ, _+_, _≤_, _<_}
-use native.Mathlib.Omega.{arith}
+use mathlib.Core.List.{List, [], _∷_}
+use Prim.Native.Nat.{ℕ}
 use lib.Bits.{bitXor, xor-zero-r}
-use lib.ListN.{length, getD, take, drop}
-use Rattle.std.proofs.shelf.Lists.{at-drop-more, at-drop-all, getD-take, length-take-le}
+use lib.ListN.{getD, take}
 use Rattle.gf2.specs.Words.{bits}
 use Rattle.gf2.specs.Product.{times-x}
 use Rattle.bch.specs.Checks.{remainder}
 use Rattle.bch.specs.Settings.{generator-top, generator-tail, checks-number}
+use Rattle.bch.proofs.Runs as runs
 use Rattle.bch.proofs.code.Bch.remainder.Needs as need
 use Rattle.bch.proofs.code.Bch.remainder.Needs.{then-is-set, else-is-set}
 
--- one bit more
-turn : (n g s v : ℕ) (w : List Bool) (i k q : ℕ) → i < k → k ≤ length w → v ≡ bitXor (times-x n g s) (cond (getD w i false) g 0)
-    → remainder n g s (drop i (take k w)) ≡ q → remainder n g v (drop (i + 1) (take k w)) ≡ q
-unfolding remainder
-turn n g s v w i k q h l e inv =
-    let xs = take k w in
-    let here : getD xs i false ≡ getD w i false = getD-take k w i false h in
-    ap (λ (x : ℕ). remainder n g x (drop (i + 1) xs)) (e ∙ ap (λ (b : Bool). bitXor (times-x n g s) (cond b g 0)) (sym here))
-    ∙ sym (at-drop-more (λ (ys : List Bool). remainder n g s ys) xs i false (omega (arith, length-take-le k w l))) ∙ inv
+abbrev next : ℕ → ℕ → ℕ → Bool → ℕ
+next n g s b = bitXor (times-x n g s) (cond b g 0)
 
-end : (n g s : ℕ) (w : List Bool) (i k q : ℕ) → k ≤ i → k ≤ length w → remainder n g s (drop i (take k w)) ≡ q → s ≡ q
+more : (n g s : ℕ) (b : Bool) (bs : List Bool) → remainder n g s (b ∷ bs) ≡ remainder n g (next n g s b) bs
 unfolding remainder
-end n g s w i k q h l inv = sym (at-drop-all (λ (ys : List Bool). remainder n g s ys) (take k w) i (omega (arith, length-take-le k w l))) ∙ inv
+more n g s b bs = refl
+
+none : (n g s : ℕ) → remainder n g s [] ≡ s
+unfolding remainder
+none n g s = refl
 
 pub loop-skip-again : need.loop-skip-again
 loop-skip-again c =
@@ -43,14 +39,16 @@ loop-skip-again c =
           y .register-is ∙ sym (xor-zero-r (c .times-x-register .result))
           ∙ ap₂ bitXor (c .times-x-register .ensures .moves-up-and-reduces) (ap (λ (b : Bool). cond b g 0) (y .if-is-set .ensures tt .the-bit-there))
     ] in
-    turn n g (c .loop-skip .register) (c .if-is-set .register) w i (c .args .count) (checks-number C (take (c .args .count) w)) (c .loop-skip-test .taken) (c .pre .enough) v (c .loop-skip .inv)
+    runs.turn (remainder n g) (next n g) (more n g) (none n g) (c .loop-skip .register) (c .if-is-set .register) w i (c .args .count) (checks-number C (take (c .args .count) w)) (c .loop-skip-test .taken) (c .pre .enough) v (c .loop-skip .inv)
 
 pub returns : need.returns
 returns c =
     let C = c .args .self in
+    let n = generator-top C in
+    let g = generator-tail C in
     let w = bits (c .args .bytes .now) in
     record {
       of-those-bits =
-          end (generator-top C) (generator-tail C) (c .loop-skip .register) w (c .loop-skip .skip) (c .args .count) (checks-number C (take (c .args .count) w))
+          runs.end (remainder n g) (next n g) (more n g) (none n g) (c .loop-skip .register) w (c .loop-skip .skip) (c .args .count) (checks-number C (take (c .args .count) w))
           (c .loop-skip-test .left) (c .pre .enough) (c .loop-skip .inv);
     }
