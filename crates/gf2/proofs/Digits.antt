@@ -1,12 +1,12 @@
 -- The bits of a number and the number of its bits.
 use mathlib.Core.Path.{_≡_, refl, sym, ap, ap₂, _∙_}
-use mathlib.Core.Bool.{Bool, true, false, cond}
+use mathlib.Core.Bool.{Bool, true, false, not, cond}
 use mathlib.Core.List.{List, [], _∷_}
 use Prim.Native.Nat.{ℕ, zero, suc, _+_, _-_, _*_, _/_, _%_, _^_, _≤_, _<_}
-use native.Mathlib.Nat.{pow-suc, mod-lt, zero-lt-suc, div-eq-of-lt, mod-eq-of-lt}
+use native.Mathlib.Nat.{pow-suc, mod-lt, zero-lt-suc, div-eq-of-lt, mod-eq-of-lt, div-self}
 use native.Mathlib.Omega.{arith}
-use lib.ListN.{length, replicate}
-use lib.Pow.{pow-add, shl-shr}
+use lib.ListN.{length, replicate, getD, set}
+use lib.Pow.{pow-pos, pow-add, shl-shr, pow-lt}
 use lib.Bits.{bitXor, xor-self, xor-shr, xor-mod, xor-shifted}
 use lib.Dec.{eqb}
 use Rattle.std.proofs.shelf.Bits.{shr-high, mod-pow-add}
@@ -33,6 +33,11 @@ pub bits-of-xor : (k a b : ℕ) → bits-of k (bitXor a b) ≡ add (bits-of k a)
 unfolding bits-of digit
 bits-of-xor zero a b = refl
 bits-of-xor (suc k) a b = ap₂ _∷_ (digit-xor k a b) (bits-of-xor k a b)
+
+zeros-add : (n : ℕ) (w : List Bool) → length w ≡ n → add (replicate n false) w ≡ w
+zeros-add zero w h = refl
+zeros-add (suc n) [] h = absurd (omega arith)
+zeros-add (suc n) (b ∷ w) h = ap (λ (r : List Bool). b ∷ r) (zeros-add n w (omega arith))
 
 -- bits above those asked for do not matter
 bits-of-high : (k j : ℕ) → k ≤ j → bits-of k (2 ^ j) ≡ replicate k false
@@ -64,17 +69,13 @@ bits-of-number (true ∷ w) =
     ap₂ _∷_ (ap (λ (x : ℕ). eqb x 1) top)
     (ap (bits-of (length w)) (ap (λ (x : ℕ). x + number w) (sym one) ∙ sym (xor-shifted 1 (length w) (number w) (number-lt w)) ∙ ap (λ (x : ℕ). bitXor x (number w)) one)
     ∙ bits-of-xor (length w) (2 ^ length w) (number w)
-    ∙ ap₂ add (bits-of-high (length w) (length w) (omega arith)) (bits-of-number w) ∙ zeros-add w)
+    ∙ ap₂ add (bits-of-high (length w) (length w) (omega arith)) (bits-of-number w) ∙ zeros-add (length w) w refl)
   where
     one : 1 * 2 ^ length w ≡ 2 ^ length w
     one = omega arith
 
     top : (2 ^ length w + number w) / 2 ^ length w % 2 ≡ 1
     top = ap (λ (x : ℕ). (x + number w) / 2 ^ length w % 2) (sym one) ∙ ap (λ (x : ℕ). x % 2) (shr-high 1 (length w) (number w) (number-lt w))
-
-    zeros-add : (w : List Bool) → add (replicate (length w) false) w ≡ w
-    zeros-add [] = refl
-    zeros-add (b ∷ w) = ap (λ (r : List Bool). b ∷ r) (zeros-add w)
 bits-of-number (false ∷ w) =
     ap₂ _∷_ (ap (λ (x : ℕ). eqb (x % 2) 1) (ap (λ (x : ℕ). x / 2 ^ length w) z ∙ div-eq-of-lt (number-lt w))) (ap (bits-of (length w)) z ∙ bits-of-number w)
   where
@@ -105,3 +106,27 @@ number-bits-of k n h = number-mod k n ∙ mod-eq-of-lt h
 pub bits-of-mod : (k n : ℕ) → bits-of k (n % 2 ^ k) ≡ bits-of k n
 bits-of-mod k n =
     ap (bits-of k) (sym (number-mod k n)) ∙ ap (λ (i : ℕ). bits-of i (number (bits-of k n))) (sym (bits-of-length k n)) ∙ bits-of-number (bits-of k n)
+
+-- the bit at o of the k low bits
+pub bits-of-at : (k o n : ℕ) → o < k → getD (bits-of k n) o false ≡ eqb (n / 2 ^ (k - 1 - o) % 2) 1
+unfolding bits-of
+bits-of-at zero o n h = absurd (omega arith)
+bits-of-at (suc k) zero n h = ap (λ (i : ℕ). eqb (n / 2 ^ i % 2) 1) (let e : k ≡ suc k - 1 - 0 = omega arith in e)
+bits-of-at (suc k) (suc o) n h =
+    bits-of-at k o n (omega arith) ∙ ap (λ (i : ℕ). eqb (n / 2 ^ i % 2) 1) (let e : k - 1 - o ≡ suc k - 1 - suc o = omega arith in e)
+
+-- the bits of a power of two turn one bit
+pub bits-of-turned : (k o n : ℕ) → o < k → add (bits-of k (2 ^ (k - 1 - o))) (bits-of k n) ≡ set (bits-of k n) o (not (eqb (n / 2 ^ (k - 1 - o) % 2) 1))
+unfolding bits-of
+bits-of-turned zero o n h = absurd (omega arith)
+bits-of-turned (suc k) zero n h =
+    let e : suc k - 1 - 0 ≡ k = omega arith in
+    ap (λ (i : ℕ). plus (eqb (2 ^ i / 2 ^ k % 2) 1) (eqb (n / 2 ^ k % 2) 1) ∷ add (bits-of k (2 ^ i)) (bits-of k n)) e
+    ∙ ap₂ (λ (x : ℕ) (w : List Bool). plus (eqb (x % 2) 1) (eqb (n / 2 ^ k % 2) 1) ∷ add w (bits-of k n)) (div-self (pow-pos k)) (bits-of-high k k (omega arith))
+    ∙ ap₂ (λ (w : List Bool) (i : ℕ). not (eqb (n / 2 ^ i % 2) 1) ∷ w) (zeros-add k (bits-of k n) (bits-of-length k n)) (sym e)
+bits-of-turned (suc k) (suc o) n h =
+    let e : suc k - 1 - suc o ≡ k - 1 - o = omega arith in
+    ap (λ (i : ℕ). plus (eqb (2 ^ i / 2 ^ k % 2) 1) (eqb (n / 2 ^ k % 2) 1) ∷ add (bits-of k (2 ^ i)) (bits-of k n)) e
+    ∙ ap₂ (λ (x : ℕ) (w : List Bool). plus (eqb (x % 2) 1) (eqb (n / 2 ^ k % 2) 1) ∷ w)
+    (div-eq-of-lt (pow-lt {i = k - 1 - o} {j = k} (omega arith))) (bits-of-turned k o n (omega arith))
+    ∙ ap (λ (i : ℕ). eqb (n / 2 ^ k % 2) 1 ∷ set (bits-of k n) o (not (eqb (n / 2 ^ i % 2) 1))) (sym e)
