@@ -69,7 +69,7 @@ pub record Powers-of-alpha (F : Field) (table : List ℕ) : Type 0 where
   pub first : getD table 0 0 ≡ 1
   pub next : (i : ℕ) → suc i < length table → getD table (suc i) 0 ≡ product F alpha (getD table i 0)
 
--- what holds of the product for every width m and modulus; only the unit asks for an element
+-- what holds of the product for every width m and modulus; only the unit and the sum ask for elements
 pub record IsRing (m : ℕ) (mul : ℕ → ℕ → ℕ) : Type 0 where
   pub closed : (a b : ℕ) → mul a b < 2 ^ m
   pub commutative : (a b : ℕ) → mul a b ≡ mul b a
