@@ -17,13 +17,14 @@ use Rattle.bch.specs.declared.code.Bch.{Bch}
 use Rattle.bch.specs.Code.{syndrome, Near}
 use Rattle.bch.specs.Settings.{field, errors, word-bits}
 use Rattle.bch.specs.Nearest.{Corrected, Left-alone}
-use Rattle.bch.specs.Elimination.{met-all, units, sequence, unit-rows}
-use Rattle.bch.specs.Decoding.{locator-sum, all-vanish, marks, sums-are-0, flips, decode, found, none, inverse-or-0, syndromes-vanish, root-at, root-marks}
+use Rattle.bch.specs.Elimination.{met-all, sequence, unit-rows}
+use Rattle.bch.specs.Decoding.{all-vanish, marks, inverse-or-0, syndromes-vanish, root-at, root-marks}
 use Rattle.bch.proofs.Decoder as decoder
 use Rattle.bch.proofs.Flips.{marks-ext}
 use Rattle.bch.proofs.Padded.{same-roots}
 use Rattle.bch.proofs.Points as points
 use Rattle.bch.proofs.Settings.{tested}
+use Rattle.bch.proofs.AnyPoints.{units, locator-sum, sums-are-0, flips, decode, found, none}
 
 pub marks-length : (f : ℕ → Bool) (n : ℕ) → length (marks f n) ≡ n
 unfolding marks

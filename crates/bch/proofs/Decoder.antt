@@ -10,16 +10,17 @@ use lib.ListN.{length}
 use lib.Dec.{T, eqb, eqb→eq, leb, leb→le, le→leb}
 use lib.Bits.{bitXor, xor-zero-r, xor-self}
 use Rattle.gf2.specs.Polynomials.{power, power-sum, All, Distinct, Nonzero}
-use Rattle.bch.specs.Elimination.{against, met-all, units, Every}
+use Rattle.bch.specs.Elimination.{against, met-all}
 use Rattle.gf2.specs.Words.{plus, add, weight}
 use Rattle.gf2.proofs.Sums.{add-length, add-back}
-use Rattle.bch.specs.Decoding.{locator-sum, Sums-vanish, all-vanish, marks, sums-are-0, flips, decode, found, none}
+use Rattle.bch.specs.Decoding.{all-vanish, marks}
 use Rattle.gf2.proofs.Ring.{_⊕_, xor4}
 use Rattle.gf2.specs.Fields.{IsField, IsRing}
 use Rattle.gf2.proofs.PowerLaws as powers
 use Rattle.gf2.proofs.Vandermonde as v
 use Rattle.bch.proofs.Kernel as ker
 use Rattle.bch.proofs.Kernel.{Member}
+use Rattle.bch.proofs.AnyPoints.{units, Every, locator-sum, Sums-vanish, sums-are-0, flips, decode, found, none}
 
 marks-length : (f : ℕ → Bool) (n : ℕ) → length (marks f n) ≡ n
 unfolding marks

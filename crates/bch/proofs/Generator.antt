@@ -10,7 +10,8 @@ use Rattle.gf2.specs.declared.field.Field.{Field}
 use Rattle.gf2.specs.Words.{bits-of}
 use Rattle.gf2.specs.Fields.{width, product, power, alpha}
 use Rattle.gf2.proofs.Five as five
-use Rattle.bch.specs.Checks.{remainder, digits-value}
+use Rattle.bch.specs.Checks.{remainder}
+use Rattle.bch.proofs.Remainder.{digits-value}
 use Rattle.bch.specs.Code.{Codeword}
 use Rattle.bch.proofs.Remainder.{encoded}
 

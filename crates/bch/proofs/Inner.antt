@@ -19,7 +19,7 @@ use Rattle.gf2.proofs.WordLaws.{distance-is-a-metric}
 use Rattle.bch.specs.declared.code.Bch.{Bch}
 use Rattle.bch.specs.Code.{word-value, Codeword}
 use Rattle.bch.specs.Decoding.{inverse-or-0}
-use Rattle.bch.specs.Orbits.{twice, orbits}
+use Rattle.bch.proofs.Orbits.{twice, orbits}
 use Rattle.bch.specs.Settings.{field, errors, word-bits, generator-top, generator-tail, data-bits, check-bits, checks-number}
 use Rattle.bch.specs.InnerLaws.{Word-of, Inner-code}
 use Rattle.bch.proofs.Decoder as decoder

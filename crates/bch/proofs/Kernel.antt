@@ -11,12 +11,13 @@ use lib.Dec.{T, eqb, eqb→eq}
 use lib.Pow.{pow-pos}
 use lib.Bits.{bitXor, xor-assoc, xor-zero-r, xor-self, xor-lt}
 use Rattle.gf2.specs.Polynomials.{power, power-sum, All, Distinct, Nonzero}
-use Rattle.bch.specs.Elimination.{against, add-scaled, cleared, met-one, met-all, units, Every}
+use Rattle.bch.specs.Elimination.{against, add-scaled, cleared, met-one, met-all}
 use Rattle.gf2.proofs.Ring.{_⊕_, xor4}
 use Rattle.gf2.specs.Fields.{IsField, IsRing}
 use Rattle.gf2.proofs.PowerLaws as powers
 use Rattle.gf2.proofs.Vandermonde as v
 use Rattle.gf2.proofs.Vandermonde.{xor-eq, all-map}
+use Rattle.bch.proofs.AnyPoints.{units, Every}
 
 abbrev pub Member : ℕ → List ℕ → Type 0
 Member y [] = ⊥

@@ -1,3 +1,5 @@
+pub mod AnyPoints
+pub mod Orbits
 pub mod Kernel
 pub mod Decoder
 pub mod Unique

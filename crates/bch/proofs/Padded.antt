@@ -9,8 +9,9 @@ use lib.Bits.{bitXor, xor-zero-r}
 use lib.Dec.{eqb}
 use Rattle.gf2.specs.Polynomials.{power}
 use Rattle.bch.specs.Decoding.{all-vanish}
-use Rattle.bch.specs.Elimination.{against, add-scaled, cleared, met-one, met-all, units, Every}
+use Rattle.bch.specs.Elimination.{against, add-scaled, cleared, met-one, met-all}
 use Rattle.bch.specs.Elimination.{unit-rows}
+use Rattle.bch.proofs.AnyPoints.{units, Every}
 
 -- the polynomial with w coefficients
 unfoldable pub wide : ℕ → List ℕ → List ℕ

@@ -19,7 +19,8 @@ use Rattle.gf2.proofs.Five as five
 use Rattle.gf2.proofs.PowerLaws as powers
 use Rattle.gf2.proofs.Vandermonde as v
 use Rattle.bch.specs.Code.{word-value, syndrome}
-use Rattle.bch.specs.Decoding.{locator-sum, inverse-or-0}
+use Rattle.bch.specs.Decoding.{inverse-or-0}
+use Rattle.bch.proofs.AnyPoints.{locator-sum}
 
 module _ (F : Field) where
   -- the number of points

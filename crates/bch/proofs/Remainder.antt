@@ -14,12 +14,17 @@ use Rattle.gf2.specs.Product.{times-x, if-set}
 use Rattle.gf2.specs.Polynomials.{power}
 use Rattle.gf2.specs.Words.{bits-of}
 use Rattle.gf2.proofs.Sums.{bits-of-length}
-use Rattle.bch.specs.Checks.{remainder, digits-value}
+use Rattle.bch.specs.Checks.{remainder}
 use Rattle.bch.specs.Code.{word-value}
 use Rattle.gf2.proofs.Ring as ring
 use Rattle.gf2.proofs.Ring.{_⊕_, xor4, half-lt, dig, if-set-add}
 use Rattle.gf2.specs.Fields.{IsField, IsRing}
 use Rattle.gf2.proofs.PowerLaws as powers
+
+-- the polynomial of the k low digits of r, at z
+unfoldable pub digits-value : (ℕ → ℕ → ℕ) → ℕ → ℕ → ℕ → ℕ
+digits-value m z zero r = 0
+digits-value m z (suc k) r = bitXor (m z (digits-value m z k (r / 2))) (if-set (r % 2) 1)
 
 module _ (k : ℕ) (m : ℕ → ℕ → ℕ) (F : IsField k m) (z : ℕ) where
   open IsField F using (nontrivial, no-zero-divisors)

@@ -8,8 +8,8 @@ use Rattle.gf2.specs.Polynomials.{power as power-under}
 use Rattle.gf2.specs.Fields.{width}
 use Rattle.bch.specs.declared.code.Bch.{Bch}
 use Rattle.bch.specs.declared.code.Bch.the-variants.{Worked, Long}
-use Rattle.bch.specs.Checks.{digits-value}
-use Rattle.bch.specs.Orbits.{twice, notIn, differ, orbits}
+use Rattle.bch.proofs.Remainder.{digits-value}
+use Rattle.bch.proofs.Orbits.{twice, notIn, differ, orbits}
 use Rattle.bch.specs.Settings.{field, errors, word-bits, generator-top, generator-tail, check-bits}
 use Rattle.bch.proofs.Generator.{generates}
 

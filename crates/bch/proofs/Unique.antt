@@ -14,7 +14,7 @@ use lib.Pow.{pow-pos}
 use Rattle.gf2.specs.Polynomials.{power, value, All, Distinct, Element}
 use Rattle.gf2.specs.Words.{weight}
 use Rattle.bch.specs.Code.{word-value}
-use Rattle.bch.specs.Orbits.{twice, notIn, differ}
+use Rattle.bch.proofs.Orbits.{twice, notIn, differ}
 use Rattle.gf2.proofs.Ring.{_⊕_, xor4}
 use Rattle.gf2.specs.Fields.{IsField, IsRing}
 use Rattle.gf2.proofs.Vandermonde as v

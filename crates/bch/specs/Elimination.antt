@@ -1,5 +1,5 @@
 -- Polynomials as lists of coefficients, lowest first, and the elimination that the decoder runs.
-use mathlib.Core.List.{List, [], _∷_, map}
+use mathlib.Core.List.{List, [], _∷_}
 use Prim.Native.Nat.{ℕ, zero, suc}
 use mathlib.Core.Bool.{true, false}
 use lib.Bits.{bitXor}
@@ -17,12 +17,12 @@ add-scaled m a [] q = q
 add-scaled m a (c ∷ p) [] = m a c ∷ add-scaled m a p []
 add-scaled m a (c ∷ p) (d ∷ q) = bitXor (m a c) d ∷ add-scaled m a p q
 
--- unit equation: the first polynomial that fails it is taken out, and added to those behind it so that they meet it
-
+-- a multiple of p, which fails the equation i, added to each polynomial so that it meets the equation
 unfoldable pub cleared : (ℕ → ℕ → ℕ) → (ℕ → ℕ) → (ℕ → ℕ) → ℕ → List ℕ → List (List ℕ) → List (List ℕ)
 cleared m inv s i p [] = []
 cleared m inv s i p (q ∷ qs) = add-scaled m (m (against m q s i) (inv (against m p s i))) p q ∷ cleared m inv s i p qs
 
+-- the polynomials made to meet the equation i: the first that fails it is taken out and clears those behind it
 unfoldable pub met-one : (ℕ → ℕ → ℕ) → (ℕ → ℕ) → (ℕ → ℕ) → ℕ → List (List ℕ) → List (List ℕ)
 met-one m inv s i [] = []
 met-one m inv s i (p ∷ ps) = elim (eqb (against m p s i) 0) [ true ↦ p ∷ met-one m inv s i ps | false ↦ cleared m inv s i p ps ]
@@ -31,15 +31,6 @@ met-one m inv s i (p ∷ ps) = elim (eqb (against m p s i) 0) [ true ↦ p ∷ m
 unfoldable pub met-all : (ℕ → ℕ → ℕ) → (ℕ → ℕ) → (ℕ → ℕ) → ℕ → ℕ → List (List ℕ) → List (List ℕ)
 met-all m inv s zero i ps = ps
 met-all m inv s (suc n) i ps = met-all m inv s n (suc i) (met-one m inv s i ps)
-
--- 1, z, z^2 and so on, n of them
-unfoldable pub units : ℕ → List (List ℕ)
-units zero = []
-units (suc n) = (1 ∷ []) ∷ map (λ p. 0 ∷ p) (units n)
-
-abbrev pub Every {ℓ} : {A : Type ℓ} → (A → Type 0) → List A → Type 0
-Every P [] = Unit
-Every P (x ∷ xs) = P x × Every P xs
 
 -- an array as a sequence
 abbrev pub sequence : List ℕ → ℕ → ℕ

@@ -2,7 +2,6 @@ pub mod Code
 pub mod Elimination
 pub mod Decoding
 pub mod Checks
-pub mod Orbits
 pub mod Settings
 pub mod Nearest
 pub mod InnerLaws
