@@ -5,11 +5,11 @@ use mathlib.Core.List.{List, [], _∷_, map}
 use Prim.Native.Nat.{ℕ, zero, suc, _+_, _≤_}
 use lib.ListN.{length}
 use lib.Bits.{bitXor}
-use lib.Dec.{eqb, leb}
+use lib.Dec.{leb}
 use Rattle.gf2.specs.Words.{add, weight}
 use Rattle.gf2.specs.Polynomials.{power}
 use Rattle.bch.specs.Elimination.{met-all}
-use Rattle.bch.specs.Decoding.{all-vanish, marks}
+use Rattle.bch.specs.Decoding.{all-vanish, marks, zeros}
 
 -- the sum of the powers j of the points of the set bits: the syndrome j
 unfoldable pub locator-sum : (ℕ → ℕ → ℕ) → (ℕ → ℕ) → List Bool → ℕ → ℕ
@@ -19,19 +19,10 @@ locator-sum m a (b ∷ bs) j = bitXor (cond b (power m (a (length bs)) j) 0) (lo
 abbrev pub Sums-vanish : (ℕ → ℕ → ℕ) → (ℕ → ℕ) → ℕ → List Bool → Type 0
 Sums-vanish m a t w = (j : ℕ) → 1 ≤ j → j ≤ t + t → locator-sum m a w j ≡ 0
 
--- the sums j, j+1 and so on, n of them, are 0
-unfoldable pub sums-are-0 : (ℕ → ℕ → ℕ) → (ℕ → ℕ) → List Bool → ℕ → ℕ → Bool
-sums-are-0 m a w j zero = true
-sums-are-0 m a w j (suc n) = cond (eqb (locator-sum m a w j) 0) (sums-are-0 m a w (suc j) n) false
-
 -- 1, z, z^2 and so on, n of them
 unfoldable pub units : ℕ → List (List ℕ)
 units zero = []
 units (suc n) = (1 ∷ []) ∷ map (λ p. 0 ∷ p) (units n)
-
-abbrev pub Every {ℓ} : {A : Type ℓ} → (A → Type 0) → List A → Type 0
-Every P [] = Unit
-Every P (x ∷ xs) = P x × Every P xs
 
 -- the bits to flip
 unfoldable pub flips : (ℕ → ℕ → ℕ) → (ℕ → ℕ) → (ℕ → ℕ) → ℕ → List Bool → List Bool
@@ -45,4 +36,4 @@ unfoldable pub decode : (ℕ → ℕ → ℕ) → (ℕ → ℕ) → (ℕ → ℕ
 decode m inv a t r =
     let e = flips m inv a t r in
     let c = add r e in
-    cond (leb (weight e) t) (cond (sums-are-0 m a c 1 (t + t)) (found c) none) none
+    cond (leb (weight e) t) (cond (zeros (locator-sum m a c) 1 (t + t)) (found c) none) none

@@ -6,6 +6,7 @@ use Prim.Native.Nat.{ℕ, zero, suc, _+_, _-_, _^_, _≤_, _<_}
 use native.Mathlib.Omega.{arith}
 use lib.Dec.{T, eqb, leb, leb→le, le→leb}
 use lib.ListN.{length, take, drop}
+use Rattle.std.proofs.shelf.Tests.{le-leb, lt-leb}
 use Rattle.gf2.specs.declared.field.Field.{Field}
 use Rattle.gf2.specs.Words.{plus, add, weight}
 use Rattle.gf2.specs.Fields.{width, product, power, alpha}
@@ -18,13 +19,14 @@ use Rattle.bch.specs.Code.{syndrome, Near}
 use Rattle.bch.specs.Settings.{field, errors, word-bits}
 use Rattle.bch.specs.Nearest.{Corrected, Left-alone}
 use Rattle.bch.specs.Elimination.{met-all, sequence, unit-rows}
-use Rattle.bch.specs.Decoding.{all-vanish, marks, inverse-or-0, syndromes-vanish, root-at, root-marks}
+use Rattle.bch.specs.Decoding.{all-vanish, marks, inverse-or-0, syndromes-vanish, root-at, root-marks, zeros}
 use Rattle.bch.proofs.Decoder as decoder
 use Rattle.bch.proofs.Flips.{marks-ext}
 use Rattle.bch.proofs.Padded.{same-roots}
 use Rattle.bch.proofs.Points as points
 use Rattle.bch.proofs.Settings.{tested}
-use Rattle.bch.proofs.AnyPoints.{units, locator-sum, sums-are-0, flips, decode, found, none}
+use Rattle.bch.proofs.Zeros.{same-zeros}
+use Rattle.bch.proofs.AnyPoints.{units, locator-sum, flips, decode, found, none}
 
 pub marks-length : (f : ℕ → Bool) (n : ℕ) → length (marks f n) ≡ n
 unfolding marks
@@ -32,14 +34,8 @@ marks-length f zero = refl
 marks-length f (suc n) = ap suc (marks-length f n)
 
 -- the tests on sums and on syndromes are one
-vanish-same : (F : Field) (w : List Bool) (j n : ℕ) → sums-are-0 (product F) (power F alpha) w j n ≡ syndromes-vanish F w j n
-unfolding sums-are-0 syndromes-vanish
-vanish-same F w j zero = refl
-vanish-same F w j (suc n) = ap₂ (λ (x : ℕ) (b : Bool). cond (eqb x 0) b false) (points.sum-is-syndrome F w j) (vanish-same F w (suc j) n)
-
-is-true : (b : Bool) → T b → b ≡ true
-is-true true t = refl
-is-true false t = absurd t
+vanish-same : (F : Field) (w : List Bool) (j n : ℕ) → zeros (locator-sum (product F) (power F alpha) w) j n ≡ syndromes-vanish F w j n
+vanish-same F w = same-zeros (locator-sum (product F) (power F alpha) w) (syndrome F w) (points.sum-is-syndrome F w)
 
 module _ (F : Field) (t : ℕ) (few : t < 6) (s : List ℕ) (r : List Bool) (short : length r ≤ 2 ^ width F - 1)
     (agree : (j : ℕ) → 1 ≤ j → j ≤ t + t → sequence s j ≡ syndrome F r j)
@@ -61,8 +57,8 @@ module _ (F : Field) (t : ℕ) (few : t < 6) (s : List ℕ) (r : List Bool) (sho
       → decode (product F) (inverse-or-0 F) (power F alpha) t r ≡ cond x (cond y (found c) none) none
   unfolding decode
   decode-is x y c e ex ey =
-      ap (λ (f : List Bool). cond (leb (weight f) t) (cond (sums-are-0 (product F) (power F alpha) (add r f) 1 (t + t)) (found (add r f)) none) none) (sym flips-are)
-      ∙ ap (λ (c : List Bool). cond (leb (weight (root-marks F ps (length r))) t) (cond (sums-are-0 (product F) (power F alpha) c 1 (t + t)) (found c) none) none) (sym e)
+      ap (λ (f : List Bool). cond (leb (weight f) t) (cond (zeros (locator-sum (product F) (power F alpha) (add r f)) 1 (t + t)) (found (add r f)) none) none) (sym flips-are)
+      ∙ ap (λ (c : List Bool). cond (leb (weight (root-marks F ps (length r))) t) (cond (zeros (locator-sum (product F) (power F alpha) c) 1 (t + t)) (found c) none) none) (sym e)
       ∙ ap₂ (λ (a b : Bool). cond a (cond b (found c) none) none) ex (vanish-same F c 1 (t + t) ∙ ey)
 
   there : (c : List Bool) → decode (product F) (inverse-or-0 F) (power F alpha) t r ≡ found c → Near F t r c
@@ -77,18 +73,14 @@ module _ (F : Field) (t : ℕ) (few : t < 6) (s : List ℕ) (r : List Bool) (sho
 
   pub corrected : (c : List Bool) → c ≡ add r (root-marks F ps (length r)) → weight (root-marks F ps (length r)) ≤ t → syndromes-vanish F c 1 (t + t) ≡ true → Near F t r c
   corrected c e low z =
-      there c (decode-is true true c e (is-true (leb (weight (root-marks F ps (length r))) t) (le→leb (weight (root-marks F ps (length r))) t low)) z)
+      there c (decode-is true true c e (le-leb (weight (root-marks F ps (length r))) t low) z)
 
   nothing-near : decode (product F) (inverse-or-0 F) (power F alpha) t r ≡ none → (c : List Bool) → Near F t r c → ⊥
   nothing-near e c q = let g = back c q in let z : _≡_ {A = ℕ} 0 1 = cc in omega arith
 
   pub too-many : t < weight (root-marks F ps (length r)) → (c : List Bool) → Near F t r c → ⊥
   too-many high =
-      nothing-near (decode-is false (syndromes-vanish F (add r (root-marks F ps (length r))) 1 (t + t)) (add r (root-marks F ps (length r))) refl (is-false (leb (weight (root-marks F ps (length r))) t) refl) refl)
-    where
-      is-false : (b : Bool) → leb (weight (root-marks F ps (length r))) t ≡ b → b ≡ false
-      is-false true q = let l = leb→le (weight (root-marks F ps (length r))) t (subst T (sym q) tt) in absurd (omega arith)
-      is-false false q = refl
+      nothing-near (decode-is false (syndromes-vanish F (add r (root-marks F ps (length r))) 1 (t + t)) (add r (root-marks F ps (length r))) refl (lt-leb (weight (root-marks F ps (length r))) t high) refl)
 
   pub no-codeword : (c : List Bool) → c ≡ add r (root-marks F ps (length r)) → syndromes-vanish F c 1 (t + t) ≡ false → (d : List Bool) → Near F t r d → ⊥
   no-codeword c e z = nothing-near (go (leb (weight (root-marks F ps (length r))) t) refl)

@@ -9,18 +9,20 @@ use native.Mathlib.Decide.{ℕ-discrete}
 use lib.ListN.{length}
 use lib.Dec.{T, eqb, eqb→eq, leb, leb→le, le→leb}
 use lib.Bits.{bitXor, xor-zero-r, xor-self}
+use Rattle.std.proofs.shelf.Tests.{eqb-true, leb-true, le-leb}
 use Rattle.gf2.specs.Polynomials.{power, power-sum, All, Distinct, Nonzero}
 use Rattle.bch.specs.Elimination.{against, met-all}
 use Rattle.gf2.specs.Words.{plus, add, weight}
 use Rattle.gf2.proofs.Sums.{add-length, add-back}
-use Rattle.bch.specs.Decoding.{all-vanish, marks}
+use Rattle.bch.specs.Decoding.{all-vanish, marks, zeros}
 use Rattle.gf2.proofs.Ring.{_⊕_, xor4}
 use Rattle.gf2.specs.Fields.{IsField, IsRing}
 use Rattle.gf2.proofs.PowerLaws as powers
 use Rattle.gf2.proofs.Vandermonde as v
 use Rattle.bch.proofs.Kernel as ker
 use Rattle.bch.proofs.Kernel.{Member}
-use Rattle.bch.proofs.AnyPoints.{units, Every, locator-sum, Sums-vanish, sums-are-0, flips, decode, found, none}
+use Rattle.bch.proofs.Zeros.{zero-at, all-zeros}
+use Rattle.bch.proofs.AnyPoints.{units, locator-sum, Sums-vanish, flips, decode, found, none}
 
 marks-length : (f : ℕ → Bool) (n : ℕ) → length (marks f n) ≡ n
 unfolding marks
@@ -128,17 +130,17 @@ module _ (k : ℕ) (m : ℕ → ℕ → ℕ) (F : IsField k m) (inv : ℕ → �
       ends [] h z = sym h
       ends (x ∷ xs) h z = let e = z .0 in absurd (omega arith)
 
-  root-to : (ps : List (List ℕ)) (y : ℕ) → T (all-vanish m ps y) → Every (λ p. against m p (power m y) 0 ≡ 0) ps
+  root-to : (ps : List (List ℕ)) (y : ℕ) → T (all-vanish m ps y) → All (λ p. against m p (power m y) 0 ≡ 0) ps
   unfolding all-vanish
   root-to [] y t = tt
   root-to (p ∷ ps) y t = go (eqb (against m p (power m y) 0) 0) refl t (root-to ps y)
     where
-      go : (b : Bool) → eqb (against m p (power m y) 0) 0 ≡ b → T (cond b (all-vanish m ps y) false) → (T (all-vanish m ps y) → Every (λ p. against m p (power m y) 0 ≡ 0) ps)
-          → (against m p (power m y) 0 ≡ 0) × Every (λ p. against m p (power m y) 0 ≡ 0) ps
-      go true e t ih = (eqb→eq (against m p (power m y) 0) 0 (subst T (sym e) tt), ih t)
+      go : (b : Bool) → eqb (against m p (power m y) 0) 0 ≡ b → T (cond b (all-vanish m ps y) false) → (T (all-vanish m ps y) → All (λ p. against m p (power m y) 0 ≡ 0) ps)
+          → (against m p (power m y) 0 ≡ 0) × All (λ p. against m p (power m y) 0 ≡ 0) ps
+      go true e t ih = (eqb-true (against m p (power m y) 0) 0 e, ih t)
       go false e t ih = absurd t
 
-  root-from : (ps : List (List ℕ)) (y : ℕ) → Every (λ p. against m p (power m y) 0 ≡ 0) ps → T (all-vanish m ps y)
+  root-from : (ps : List (List ℕ)) (y : ℕ) → All (λ p. against m p (power m y) 0 ≡ 0) ps → T (all-vanish m ps y)
   unfolding all-vanish
   root-from [] y h = tt
   root-from (p ∷ ps) y h = subst (λ (x : ℕ). T (cond (eqb x 0) (all-vanish m ps y) false)) (sym (h .0)) (root-from ps y (h .1))
@@ -149,16 +151,16 @@ module _ (k : ℕ) (m : ℕ → ℕ → ℕ) (F : IsField k m) (inv : ℕ → �
   at P y (x ∷ xs) h (inl e) = subst P e (h .0)
   at P y (x ∷ xs) h (inr e) = at P y xs (h .1) e
 
-  every-at : (y : ℕ) (xs : List ℕ) (ps : List (List ℕ)) → Member y xs → Every (λ p. All (λ x. against m p (power m x) 0 ≡ 0) xs) ps → Every (λ p. against m p (power m y) 0 ≡ 0) ps
-  every-at y xs [] e h = tt
-  every-at y xs (p ∷ ps) e h = (at (λ x. against m p (power m x) 0 ≡ 0) y xs (h .0) e, every-at y xs ps e (h .1))
+  all-at : (y : ℕ) (xs : List ℕ) (ps : List (List ℕ)) → Member y xs → All (λ p. All (λ x. against m p (power m x) 0 ≡ 0) xs) ps → All (λ p. against m p (power m y) 0 ≡ 0) ps
+  all-at y xs [] e h = tt
+  all-at y xs (p ∷ ps) e h = (at (λ x. against m p (power m x) 0 ≡ 0) y xs (h .0) e, all-at y xs ps e (h .1))
 
   pub finds : (t : ℕ) (r c : List Bool) → length r ≤ N → length c ≡ length r → Sums-vanish m a t c → weight (add r c) ≤ t → flips m inv a t r ≡ add r c
   unfolding flips
   finds t r c fits same code few =
       ap (marks f) (sym el) ∙ marks-are a f e (λ i j l q. apart i j l (omega (arith, el)))
       (λ i l u. only (a i) (points i (omega (arith, el)) .0) (root-to ps (a i) u))
-      (λ i l u. root-from ps (a i) (every-at (a i) (locs a e) ps u all))
+      (λ i l u. root-from ps (a i) (all-at (a i) (locs a e) ps u all))
     where
       e : List Bool
       e = add r c
@@ -185,33 +187,11 @@ module _ (k : ℕ) (m : ℕ → ℕ → ℕ) (F : IsField k m) (inv : ℕ → �
       few′ : length (locs a e) ≤ t
       few′ = omega (arith, locs-length a e)
 
-      only : (y : ℕ) → y < 2 ^ k → Every (λ p. against m p (power m y) 0 ≡ 0) ps → Member y (locs a e)
+      only : (y : ℕ) → y < 2 ^ k → All (λ p. against m p (power m y) 0 ≡ 0) ps → Member y (locs a e)
       only = ker.only k m F inv inverse (locator-sum m a r) t (locs a e) pts ap′ few′ agree
 
-      all : Every (λ p. All (λ x. against m p (power m x) 0 ≡ 0) (locs a e)) ps
+      all : All (λ p. All (λ x. against m p (power m x) 0 ≡ 0) (locs a e)) ps
       all = ker.all k m F inv inverse (locator-sum m a r) t (locs a e) pts ap′ few′ agree
-
-  clean-to : (w : List Bool) (n i : ℕ) → T (sums-are-0 m a w i n) → (j : ℕ) → i ≤ j → j < i + n → locator-sum m a w j ≡ 0
-  unfolding sums-are-0
-  clean-to w zero i t j l u = absurd (omega arith)
-  clean-to w (suc n) i t j l u = go (eqb (locator-sum m a w i) 0) refl t (λ t. clean-to w n (suc i) t j) (ℕ-discrete j i)
-    where
-      go : (b : Bool) → eqb (locator-sum m a w i) 0 ≡ b → T (cond b (sums-are-0 m a w (suc i) n) false)
-          → (T (sums-are-0 m a w (suc i) n) → suc i ≤ j → j < suc i + n → locator-sum m a w j ≡ 0) → Dec (j ≡ i) → locator-sum m a w j ≡ 0
-      go true e t ih (yes q) = ap (locator-sum m a w) q ∙ eqb→eq (locator-sum m a w i) 0 (subst T (sym e) tt)
-      go true e t ih (no q) = ih t (omega arith) (omega arith)
-      go false e t ih d = absurd t
-
-  clean-from : (w : List Bool) (n i : ℕ) → ((j : ℕ) → i ≤ j → j < i + n → locator-sum m a w j ≡ 0) → sums-are-0 m a w i n ≡ true
-  unfolding sums-are-0
-  clean-from w zero i h = refl
-  clean-from w (suc n) i h =
-      ap (λ (x : ℕ). cond (eqb x 0) (sums-are-0 m a w (suc i) n) false) (h i (omega arith) (omega arith))
-      ∙ clean-from w n (suc i) (λ j l u. h j (omega arith) (omega arith))
-
-  is-true : (b : Bool) → T b → b ≡ true
-  is-true true t = refl
-  is-true false t = absurd t
 
   -- within t bits of r, and a codeword
   pub record Near (t : ℕ) (r c : List Bool) : Type 0 where
@@ -222,14 +202,14 @@ module _ (k : ℕ) (m : ℕ → ℕ → ℕ) (F : IsField k m) (inv : ℕ → �
   pub complete : (t : ℕ) (r c : List Bool) → length r ≤ N → Near t r c → decode m inv a t r ≡ found c
   unfolding decode
   complete t r c fits h =
-      ap (λ (e : List Bool). cond (leb (weight e) t) (cond (sums-are-0 m a (add r e) 1 (t + t)) (found (add r e)) none) none) (finds t r c fits (h .long) (h .code) (h .near))
-      ∙ ap (λ (x : List Bool). cond (leb (weight (add r c)) t) (cond (sums-are-0 m a x 1 (t + t)) (found x) none) none) (add-back r c (sym (h .long)))
-      ∙ ap₂ (λ (x y : Bool). cond x (cond y (found c) none) none) (is-true (leb (weight (add r c)) t) (le→leb (weight (add r c)) t (h .near)))
-      (clean-from c (t + t) 1 (λ j l u. h .code j l (omega arith)))
+      ap (λ (e : List Bool). cond (leb (weight e) t) (cond (zeros (locator-sum m a (add r e)) 1 (t + t)) (found (add r e)) none) none) (finds t r c fits (h .long) (h .code) (h .near))
+      ∙ ap (λ (x : List Bool). cond (leb (weight (add r c)) t) (cond (zeros (locator-sum m a x) 1 (t + t)) (found x) none) none) (add-back r c (sym (h .long)))
+      ∙ ap₂ (λ (x y : Bool). cond x (cond y (found c) none) none) (le-leb (weight (add r c)) t (h .near))
+      (all-zeros (locator-sum m a c) (t + t) 1 (λ j l u. h .code j l (omega arith)))
 
   pub sound : (t : ℕ) (r c : List Bool) → decode m inv a t r ≡ found c → Near t r c
   unfolding decode
-  sound t r c h = go (leb (weight e) t) (sums-are-0 m a (add r e) 1 (t + t)) refl refl h
+  sound t r c h = go (leb (weight e) t) (zeros (locator-sum m a (add r e)) 1 (t + t)) refl refl h
     where
       e : List Bool
       e = flips m inv a t r
@@ -237,13 +217,13 @@ module _ (k : ℕ) (m : ℕ → ℕ → ℕ) (F : IsField k m) (inv : ℕ → �
       el : length e ≡ length r
       el = unfold flips in marks-length (λ i. all-vanish m (met-all m inv (locator-sum m a r) t 1 (units (suc t))) (a i)) (length r)
 
-      go : (x y : Bool) → leb (weight e) t ≡ x → sums-are-0 m a (add r e) 1 (t + t) ≡ y → cond x (cond y (found (add r e)) none) none ≡ found c → Near t r c
+      go : (x y : Bool) → leb (weight e) t ≡ x → zeros (locator-sum m a (add r e)) 1 (t + t) ≡ y → cond x (cond y (found (add r e)) none) none ≡ found c → Near t r c
       go true true p q h =
           let s : add r e ≡ c = cc in
           record {
             long = ap length (sym s) ∙ add-length r e (sym el);
-            code = λ j l u. ap (λ (w : List Bool). locator-sum m a w j) (sym s) ∙ clean-to (add r e) (t + t) 1 (subst T (sym q) tt) j l (omega arith);
-            near = subst (λ (w : List Bool). weight w ≤ t) (sym (add-back r e (sym el)) ∙ ap (add r) s) (leb→le (weight e) t (subst T (sym p) tt));
+            code = λ j l u. ap (λ (w : List Bool). locator-sum m a w j) (sym s) ∙ zero-at (locator-sum m a (add r e)) (t + t) 1 (subst T (sym q) tt) j l (omega arith);
+            near = subst (λ (w : List Bool). weight w ≤ t) (sym (add-back r e (sym el)) ∙ ap (add r) s) (leb-true (weight e) t p);
           }
       go true false p q h = let z : _≡_ {A = ℕ} 0 1 = cc in absurd (omega arith)
       go false y p q h = let z : _≡_ {A = ℕ} 0 1 = cc in absurd (omega arith)

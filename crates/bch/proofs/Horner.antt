@@ -10,11 +10,11 @@ use Rattle.gf2.specs.Polynomials.{power}
 use Rattle.gf2.specs.Fields.{IsField, IsRing}
 use Rattle.gf2.proofs.PowerLaws as powers
 use Rattle.bch.specs.Code.{word-value}
+use Rattle.bch.specs.Checks.{running}
 
 -- s times z plus the next bit, over all bits
-unfoldable pub horner : (ℕ → ℕ → ℕ) → ℕ → ℕ → List Bool → ℕ
-horner m z s [] = s
-horner m z s (b ∷ bs) = horner m z (bitXor (m z s) (cond b 1 0)) bs
+abbrev pub horner : (ℕ → ℕ → ℕ) → ℕ → ℕ → List Bool → ℕ
+horner m z = running (m z) 1
 
 module _ (k : ℕ) (m : ℕ → ℕ → ℕ) (F : IsField k m) (z : ℕ) where
   open IsField F using (nontrivial)
@@ -29,7 +29,7 @@ module _ (k : ℕ) (m : ℕ → ℕ → ℕ) (F : IsField k m) (z : ℕ) where
   bit-product false P h = zero-product P
 
   horner-is : (bs : List Bool) (s : ℕ) → s < 2 ^ k → horner m z s bs ≡ bitXor (m (power m z (length bs)) s) (word-value m z bs)
-  unfolding horner word-value power
+  unfolding running word-value power
   horner-is [] s h = sym (xor-zero-r (m 1 s) ∙ unit s h)
   horner-is (b ∷ bs) s h =
       let P = power m z (length bs) in

@@ -10,14 +10,15 @@ use lib.ListN.{length}
 use lib.Dec.{T, eqb, eqb→eq}
 use lib.Pow.{pow-pos}
 use lib.Bits.{bitXor, xor-assoc, xor-zero-r, xor-self, xor-lt}
+use Rattle.std.proofs.shelf.Tests.{eqb-true}
 use Rattle.gf2.specs.Polynomials.{power, power-sum, All, Distinct, Nonzero}
 use Rattle.bch.specs.Elimination.{against, add-scaled, cleared, met-one, met-all}
 use Rattle.gf2.proofs.Ring.{_⊕_, xor4}
 use Rattle.gf2.specs.Fields.{IsField, IsRing}
 use Rattle.gf2.proofs.PowerLaws as powers
 use Rattle.gf2.proofs.Vandermonde as v
-use Rattle.gf2.proofs.Vandermonde.{xor-eq, all-map}
-use Rattle.bch.proofs.AnyPoints.{units, Every}
+use Rattle.gf2.proofs.Vandermonde.{xor-eq, all-map, all-map2}
+use Rattle.bch.proofs.AnyPoints.{units}
 
 abbrev pub Member : ℕ → List ℕ → Type 0
 Member y [] = ⊥
@@ -90,7 +91,7 @@ module _ (k : ℕ) (m : ℕ → ℕ → ℕ) (F : IsField k m) (inv : ℕ → �
         split : (b : Bool) → eqb X 0 ≡ b → (dot m cs ps s i ≡ 0 → Kept cs ps (met-one m inv s i ps))
             → Kept (a ∷ cs) (p ∷ ps) (elim b [ true ↦ p ∷ met-one m inv s i ps | false ↦ cleared m inv s i p ps ])
         split true t ih =
-            let z : X ≡ 0 = eqb→eq X 0 (subst T (sym t) tt) in
+            let z : X ≡ 0 = eqb-true X 0 t in
             let h = ih (sym (ap (λ (y : ℕ). m a y ⊕ dot m cs ps s i) z ∙ ap (λ (y : ℕ). y ⊕ dot m cs ps s i) (zero-product a)) ∙ e) in
             (a ∷ h .0, λ r j. ap (bitXor (m a (against m p r j))) (h .1 r j))
         split false t ih =
@@ -104,7 +105,7 @@ module _ (k : ℕ) (m : ℕ → ℕ → ℕ) (F : IsField k m) (inv : ℕ → �
                 ∙ associative a 1 (against m p r j) ∙ ap (m a) (unit (against m p r j) (against-lt p r j))
 
     -- the next list meets the equation, and each that the list met
-    cleared-meets : (p : List ℕ) (ps : List (List ℕ)) → against m p s i ≢ 0 → Every (λ q. against m q s i ≡ 0) (cleared m inv s i p ps)
+    cleared-meets : (p : List ℕ) (ps : List (List ℕ)) → against m p s i ≢ 0 → All (λ q. against m q s i ≡ 0) (cleared m inv s i p ps)
     unfolding cleared
     cleared-meets p [] z = tt
     cleared-meets p (q ∷ ps) z = (here, cleared-meets p ps z)
@@ -122,35 +123,35 @@ module _ (k : ℕ) (m : ℕ → ℕ → ℕ) (F : IsField k m) (inv : ℕ → �
             (associative B (inv X) X ∙ ap (m B) (commutative (inv X) X ∙ inverse X (against-lt p s i) z) ∙ commutative B 1 ∙ unit B (against-lt q s i))
             ∙ xor-self B
 
-    meets : (ps : List (List ℕ)) → Every (λ q. against m q s i ≡ 0) (met-one m inv s i ps)
+    meets : (ps : List (List ℕ)) → All (λ q. against m q s i ≡ 0) (met-one m inv s i ps)
     unfolding met-one
     meets [] = tt
     meets (p ∷ ps) = split (eqb (against m p s i) 0) refl (meets ps)
       where
-        split : (b : Bool) → eqb (against m p s i) 0 ≡ b → Every (λ q. against m q s i ≡ 0) (met-one m inv s i ps)
-            → Every (λ q. against m q s i ≡ 0) (elim b [ true ↦ p ∷ met-one m inv s i ps | false ↦ cleared m inv s i p ps ])
-        split true t ih = (eqb→eq (against m p s i) 0 (subst T (sym t) tt), ih)
+        split : (b : Bool) → eqb (against m p s i) 0 ≡ b → All (λ q. against m q s i ≡ 0) (met-one m inv s i ps)
+            → All (λ q. against m q s i ≡ 0) (elim b [ true ↦ p ∷ met-one m inv s i ps | false ↦ cleared m inv s i p ps ])
+        split true t ih = (eqb-true (against m p s i) 0 t, ih)
         split false t ih = cleared-meets p ps (λ y. subst T t (subst (λ (y : ℕ). T (eqb y 0)) (sym y) tt))
 
     -- what is closed under add-scaled is kept
     module _ (P : List ℕ → Type 0) (stable : (a : ℕ) (p q : List ℕ) → P p → P q → P (add-scaled m a p q)) where
-      cleared-keeps : (p : List ℕ) (ps : List (List ℕ)) → P p → Every P ps → Every P (cleared m inv s i p ps)
+      cleared-keeps : (p : List ℕ) (ps : List (List ℕ)) → P p → All P ps → All P (cleared m inv s i p ps)
       unfolding cleared
       cleared-keeps p [] hp h = tt
       cleared-keeps p (q ∷ ps) hp h = (stable (m (against m q s i) (inv (against m p s i))) p q hp (h .0), cleared-keeps p ps hp (h .1))
 
-      keeps : (ps : List (List ℕ)) → Every P ps → Every P (met-one m inv s i ps)
+      keeps : (ps : List (List ℕ)) → All P ps → All P (met-one m inv s i ps)
       unfolding met-one
       keeps [] h = tt
       keeps (p ∷ ps) h = split (eqb (against m p s i) 0) (keeps ps (h .1))
         where
-          split : (b : Bool) → Every P (met-one m inv s i ps) → Every P (elim b [ true ↦ p ∷ met-one m inv s i ps | false ↦ cleared m inv s i p ps ])
+          split : (b : Bool) → All P (met-one m inv s i ps) → All P (elim b [ true ↦ p ∷ met-one m inv s i ps | false ↦ cleared m inv s i p ps ])
           split true ih = (h .0, ih)
           split false ih = cleared-keeps p ps (h .0) (h .1)
 
   -- ---- several equations
   met-all-keeps : (s : ℕ → ℕ) (P : List ℕ → Type 0) → ((a : ℕ) (p q : List ℕ) → P p → P q → P (add-scaled m a p q))
-      → (n i : ℕ) (ps : List (List ℕ)) → Every P ps → Every P (met-all m inv s n i ps)
+      → (n i : ℕ) (ps : List (List ℕ)) → All P ps → All P (met-all m inv s n i ps)
   unfolding met-all
   met-all-keeps s P stable zero i ps h = h
   met-all-keeps s P stable (suc n) i ps h = met-all-keeps s P stable n (suc i) (met-one m inv s i ps) (keeps s i P stable ps h)
@@ -158,15 +159,15 @@ module _ (k : ℕ) (m : ℕ → ℕ → ℕ) (F : IsField k m) (inv : ℕ → �
   zero-stable : (s : ℕ → ℕ) (i a : ℕ) (p q : List ℕ) → against m p s i ≡ 0 → against m q s i ≡ 0 → against m (add-scaled m a p q) s i ≡ 0
   zero-stable s i a p q hp hq = against-add-scaled a p q s i ∙ ap₂ (λ (x y : ℕ). m a x ⊕ y) hp hq ∙ ap (λ (x : ℕ). x ⊕ 0) (zero-product a)
 
-  met-all-meets : (s : ℕ → ℕ) (n i : ℕ) (ps : List (List ℕ)) (j : ℕ) → i ≤ j → j < i + n → Every (λ p. against m p s j ≡ 0) (met-all m inv s n i ps)
+  met-all-meets : (s : ℕ → ℕ) (n i : ℕ) (ps : List (List ℕ)) (j : ℕ) → i ≤ j → j < i + n → All (λ p. against m p s j ≡ 0) (met-all m inv s n i ps)
   unfolding met-all
   met-all-meets s zero i ps j h l = absurd (omega arith)
   met-all-meets s (suc n) i ps j h l = go (λ a b. met-all-meets s n (suc i) (met-one m inv s i ps) j a b) (ℕ-discrete j i)
     where
-      go : (suc i ≤ j → j < suc i + n → Every (λ p. against m p s j ≡ 0) (met-all m inv s n (suc i) (met-one m inv s i ps))) → Dec (j ≡ i) → Every (λ p. against m p s j ≡ 0) (met-all m inv s n (suc i) (met-one m inv s i ps))
+      go : (suc i ≤ j → j < suc i + n → All (λ p. against m p s j ≡ 0) (met-all m inv s n (suc i) (met-one m inv s i ps))) → Dec (j ≡ i) → All (λ p. against m p s j ≡ 0) (met-all m inv s n (suc i) (met-one m inv s i ps))
       go ih (yes e) =
           met-all-keeps s (λ p. against m p s j ≡ 0) (zero-stable s j) n (suc i) (met-one m inv s i ps)
-          (subst (λ (x : ℕ). Every (λ p. against m p s x ≡ 0) (met-one m inv s i ps)) (sym e) (meets s i ps))
+          (subst (λ (x : ℕ). All (λ p. against m p s x ≡ 0) (met-one m inv s i ps)) (sym e) (meets s i ps))
       go ih (no e) = ih (omega arith) (omega arith)
 
   met-all-spans : (s : ℕ → ℕ) (n i : ℕ) (ps : List (List ℕ)) (cs : List ℕ) → ((j : ℕ) → i ≤ j → j < i + n → dot m cs ps s j ≡ 0)
@@ -180,7 +181,7 @@ module _ (k : ℕ) (m : ℕ → ℕ → ℕ) (F : IsField k m) (inv : ℕ → �
 
   -- ---- the start spans every polynomial
   Low : List ℕ → Type 0
-  Low cs = Every (λ c. c < 2 ^ k) cs
+  Low cs = All (λ c. c < 2 ^ k) cs
 
   shift-dot : (cs : List ℕ) (ps : List (List ℕ)) (r : ℕ → ℕ) (j : ℕ) → dot m cs (map (λ p. 0 ∷ p) ps) r j ≡ dot m cs ps r (suc j)
   unfolding dot against
@@ -324,18 +325,14 @@ module _ (k : ℕ) (m : ℕ → ℕ → ℕ) (F : IsField k m) (inv : ℕ → �
     same : (p : List ℕ) (j : ℕ) → length p ≤ suc t → 1 ≤ j → j ≤ t → against m p s j ≡ power-sum m (ev p) xs j
     same p j h a b = against-cong p s (power-sum m (λ x. 1) xs) j (λ i c d. agree i (omega arith) (omega arith)) ∙ exchange p xs j
 
-    every-use : {P : List ℕ → Type 0} {Q : List ℕ → Type 0} → ((p : List ℕ) → P p → Q p) → (ps : List (List ℕ)) → Every P ps → Every Q ps
-    every-use f [] h = tt
-    every-use f (p ∷ ps) h = (f p (h .0), every-use f ps (h .1))
-
-    dot-0 : (cs : List ℕ) (ps : List (List ℕ)) (r : ℕ → ℕ) (j : ℕ) → Every (λ p. against m p r j ≡ 0) ps → dot m cs ps r j ≡ 0
+    dot-0 : (cs : List ℕ) (ps : List (List ℕ)) (r : ℕ → ℕ) (j : ℕ) → All (λ p. against m p r j ≡ 0) ps → dot m cs ps r j ≡ 0
     unfolding dot
     dot-0 [] ps r j h = refl
     dot-0 (c ∷ cs) [] r j h = refl
     dot-0 (c ∷ cs) (p ∷ ps) r j h = ap₂ bitXor (ap (m c) (h .0) ∙ zero-product c) (dot-0 cs ps r j (h .1))
 
     -- a point at which all are 0 that are left is an error point
-    pub only : (y : ℕ) → y < 2 ^ k → Every (λ p. ev p y ≡ 0) left → Member y xs
+    pub only : (y : ℕ) → y < 2 ^ k → All (λ p. ev p y ≡ 0) left → Member y xs
     only y hy h = locator-only xs y hy (all-map (λ x q. q .0) xs pts) value
       where
         E : List ℕ
@@ -362,28 +359,24 @@ module _ (k : ℕ) (m : ℕ → ℕ → ℕ) (F : IsField k m) (inv : ℕ → �
     add-scaled-length a (c ∷ p) (d ∷ q) zero hp hq = absurd (omega arith)
     add-scaled-length a (c ∷ p) (d ∷ q) (suc n) hp hq = let h = add-scaled-length a p q n (omega arith) (omega arith) in omega arith
 
-    every-cons : (n : ℕ) (ps : List (List ℕ)) → Every (λ p. length p ≤ n) ps → Every (λ p. length p ≤ suc n) (map (λ p. 0 ∷ p) ps)
-    every-cons n [] h = tt
-    every-cons n (p ∷ ps) h = (let l = h .0 in omega arith, every-cons n ps (h .1))
+    all-cons : (n : ℕ) (ps : List (List ℕ)) → All (λ p. length p ≤ n) ps → All (λ p. length p ≤ suc n) (map (λ p. 0 ∷ p) ps)
+    all-cons n [] h = tt
+    all-cons n (p ∷ ps) h = (let l = h .0 in omega arith, all-cons n ps (h .1))
 
-    units-length : (n : ℕ) → Every (λ p. length p ≤ n) (units n)
+    units-length : (n : ℕ) → All (λ p. length p ≤ n) (units n)
     unfolding units
     units-length zero = tt
-    units-length (suc n) = (omega arith, every-cons n (units n) (units-length n))
+    units-length (suc n) = (omega arith, all-cons n (units n) (units-length n))
 
-    every-all : (P : ℕ → List ℕ → Type 0) (A : ℕ → Type 0) (ps : List (List ℕ)) → ((j : ℕ) → A j → Every (P j) ps) → Every (λ p. (j : ℕ) → A j → P j p) ps
-    every-all P A [] h = tt
-    every-all P A (p ∷ ps) h = (λ j a. h j a .0, every-all P A ps (λ j a. h j a .1))
+    all-for-each : (P : ℕ → List ℕ → Type 0) (A : ℕ → Type 0) (ps : List (List ℕ)) → ((j : ℕ) → A j → All (P j) ps) → All (λ p. (j : ℕ) → A j → P j p) ps
+    all-for-each P A [] h = tt
+    all-for-each P A (p ∷ ps) h = (λ j a. h j a .0, all-for-each P A ps (λ j a. h j a .1))
 
-    every-use2 : {P Q R : List ℕ → Type 0} → ((p : List ℕ) → P p → Q p → R p) → (ps : List (List ℕ)) → Every P ps → Every Q ps → Every R ps
-    every-use2 f [] h g = tt
-    every-use2 f (p ∷ ps) h g = (f p (h .0) (g .0), every-use2 f ps (h .1) (g .1))
-
-    pub all : Every (λ p. All (λ x. ev p x ≡ 0) xs) left
+    pub all : All (λ p. All (λ x. ev p x ≡ 0) xs) left
     all =
-        every-use2 zeros left
+        all-map2 zeros left
         (met-all-keeps s (λ p. length p ≤ suc t) (λ a p q hp hq. add-scaled-length a p q (suc t) hp hq) t 1 (units (suc t)) (units-length (suc t)))
-        (every-all (λ j p. against m p s j ≡ 0) (λ j. (1 ≤ j) × (j < 1 + t)) left (λ j h. met-all-meets s t 1 (units (suc t)) j (h .0) (h .1)))
+        (all-for-each (λ j p. against m p s j ≡ 0) (λ j. (1 ≤ j) × (j < 1 + t)) left (λ j h. met-all-meets s t 1 (units (suc t)) j (h .0) (h .1)))
       where
         zeros : (p : List ℕ) → length p ≤ suc t → ((j : ℕ) → (1 ≤ j) × (j < 1 + t) → against m p s j ≡ 0) → All (λ x. ev p x ≡ 0) xs
         zeros p short h =

@@ -1,3 +1,4 @@
+pub mod Zeros
 pub mod AnyPoints
 pub mod Orbits
 pub mod Kernel

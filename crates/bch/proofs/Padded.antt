@@ -7,11 +7,11 @@ use native.Mathlib.Omega.{arith}
 use lib.ListN.{length, take}
 use lib.Bits.{bitXor, xor-zero-r}
 use lib.Dec.{eqb}
-use Rattle.gf2.specs.Polynomials.{power}
+use Rattle.gf2.specs.Polynomials.{power, All}
 use Rattle.bch.specs.Decoding.{all-vanish}
 use Rattle.bch.specs.Elimination.{against, add-scaled, cleared, met-one, met-all}
 use Rattle.bch.specs.Elimination.{unit-rows}
-use Rattle.bch.proofs.AnyPoints.{units, Every}
+use Rattle.bch.proofs.AnyPoints.{units}
 
 -- the polynomial with w coefficients
 unfoldable pub wide : ℕ → List ℕ → List ℕ
@@ -20,7 +20,7 @@ wide (suc w) [] = 0 ∷ wide w []
 wide (suc w) (c ∷ p) = c ∷ wide w p
 
 abbrev pub Short : ℕ → List (List ℕ) → Type 0
-Short n ps = Every (λ p. length p ≤ n) ps
+Short n ps = All (λ p. length p ≤ n) ps
 
 pub rows-of-units : (t : ℕ) → t < 6 → take (t + 1) unit-rows ≡ map (wide 6) (units (suc t))
 unfolding units wide

@@ -14,7 +14,7 @@ use Rattle.gf2.specs.Product.{times-x, if-set}
 use Rattle.gf2.specs.Polynomials.{power}
 use Rattle.gf2.specs.Words.{bits-of}
 use Rattle.gf2.proofs.Sums.{bits-of-length}
-use Rattle.bch.specs.Checks.{remainder}
+use Rattle.bch.specs.Checks.{running, remainder}
 use Rattle.bch.specs.Code.{word-value}
 use Rattle.gf2.proofs.Ring as ring
 use Rattle.gf2.proofs.Ring.{_⊕_, xor4, half-lt, dig, if-set-add}
@@ -109,7 +109,7 @@ module _ (k : ℕ) (m : ℕ → ℕ → ℕ) (F : IsField k m) (z : ℕ) where
     digits-value-cond false = digits-value-zero (suc n)
 
     remainder-lt : (d : List Bool) (r : ℕ) → r < 2 ^ suc n → remainder n g r d < 2 ^ suc n
-    unfolding remainder
+    unfolding running
     remainder-lt [] r h = h
     remainder-lt (b ∷ bs) r h = remainder-lt bs (times-x n g r ⊕ cond b g 0) (xor-lt (suc n) (times-x n g r) (cond b g 0) (ring.times-x-lt n g hg r) (cond-lt b))
 
@@ -128,7 +128,7 @@ module _ (k : ℕ) (m : ℕ → ℕ → ℕ) (F : IsField k m) (z : ℕ) where
 
     remainder-value : (d : List Bool) (r : ℕ) → r < 2 ^ suc n
         → digits-value m z (suc n) (remainder n g r d) ≡ m (power m z (length d)) (digits-value m z (suc n) r) ⊕ m (power m z (suc n)) (word-value m z d)
-    unfolding remainder word-value power
+    unfolding running word-value power
     remainder-value [] r h =
         let V = digits-value m z (suc n) r in
         sym (ap₂ bitXor (unit V (digits-value-lt (suc n) r)) (zero-product (power m z (suc n))) ∙ xor-zero-r V)

@@ -9,6 +9,7 @@ use lib.ListN.{length, getD, set, take, drop}
 use lib.Bits.{bitXor}
 use lib.Dec.{T, eqb, eqb→eq}
 use Rattle.std.proofs.shelf.Lists.{append-nil, append-assoc, drop-all, drop-more, drop-set-lt, take-more, take-more-set, at-drop-all}
+use Rattle.std.proofs.shelf.Tests.{ne-eqb}
 use Rattle.gf2.specs.Polynomials.{power}
 use Rattle.bch.specs.Decoding.{all-vanish}
 use Rattle.bch.specs.Elimination.{against, add-scaled, cleared, met-one}
@@ -90,11 +91,7 @@ module _ (m : ℕ → ℕ → ℕ) where
 
     pub met-one-out : (p : List ℕ) (ps : List (List ℕ)) → against m p s i ≢ 0 → met-one m inv s i (p ∷ ps) ≡ cleared m inv s i p ps
     unfolding met-one
-    met-one-out p ps ne = go (eqb (against m p s i) 0) refl
-      where
-        go : (b : Bool) → eqb (against m p s i) 0 ≡ b → elim b [ true ↦ p ∷ met-one m inv s i ps | false ↦ cleared m inv s i p ps ] ≡ cleared m inv s i p ps
-        go true e = absurd (ne (eqb→eq (against m p s i) 0 (subst T (sym e) tt)))
-        go false e = refl
+    met-one-out p ps ne = ap (λ (b : Bool). elim b [ true ↦ p ∷ met-one m inv s i ps | false ↦ cleared m inv s i p ps ]) (ne-eqb (against m p s i) 0 ne)
 
     pub met-one-turn : (p : List ℕ) (ps qs : List (List ℕ)) (n k : ℕ) → k < n → n ≤ length ps → p ≡ getD ps k [] → against m p s i ≡ 0
         → qs ≡ take k ps ++ met-one m inv s i (take (n - k) (drop k ps))
@@ -144,11 +141,7 @@ module _ (m : ℕ → ℕ → ℕ) where
   root-fails y ps b n k h l z e =
       sym
       (e ∙ ap (λ (x : List (List ℕ)). all-vanish m x y) (rest (λ a. a) (λ a. a) 0 ps n k h (omega arith))
-      ∙ go (eqb (against m (getD ps k []) (power m y) 0) 0) refl)
-    where
-      go : (t : Bool) → eqb (against m (getD ps k []) (power m y) 0) 0 ≡ t → cond t (all-vanish m (take (n - (k + 1)) (drop (k + 1) ps)) y) false ≡ false
-      go true e = absurd (z (eqb→eq (against m (getD ps k []) (power m y) 0) 0 (subst T (sym e) tt)))
-      go false e = refl
+      ∙ ap (λ (t : Bool). cond t (all-vanish m (take (n - (k + 1)) (drop (k + 1) ps)) y) false) (ne-eqb (against m (getD ps k []) (power m y) 0) 0 z))
 
   pub root-end : (y : ℕ) (ps : List (List ℕ)) (b : Bool) (n k : ℕ) → n ≤ k → b ≡ all-vanish m (take (n - k) (drop k ps)) y → true ≡ b
   unfolding all-vanish

@@ -85,7 +85,7 @@ module _ (k : ℕ) (m : ℕ → ℕ → ℕ) (F : IsField k m) where
       absurd
       (omega (arith, few-roots k m F (low-first bs (1 ∷ [])) zs (low-first-low bs (1 ∷ []) (nontrivial, tt)) (some-bit bs (1 ∷ []) one-is-not-0) low apart (all-map same zs e), low-first-length bs (1 ∷ [])))
     where
-      one-is-not-0 : All (λ c. c ≡ 0) (1 ∷ []) → ⊥
+      one-is-not-0 : All (λ (c : ℕ). c ≡ 0) (1 ∷ []) → ⊥
       one-is-not-0 q = let z : _≡_ {A = ℕ} 1 0 = q .0 in omega arith
 
       same : (z : ℕ) → word-value m z (true ∷ bs) ≡ 0 → value m (low-first bs (1 ∷ [])) z ≡ 0

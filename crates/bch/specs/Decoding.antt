@@ -33,7 +33,11 @@ marks f (suc n) = f n ∷ marks f n
 abbrev pub root-marks : Field → List (List ℕ) → ℕ → List Bool
 root-marks F ps n = marks (root-at F ps) n
 
--- the syndromes j, j+1 and so on, n of them, are 0
-unfoldable pub syndromes-vanish : Field → List Bool → ℕ → ℕ → Bool
-syndromes-vanish F w j zero = true
-syndromes-vanish F w j (suc n) = cond (eqb (syndrome F w j) 0) (syndromes-vanish F w (suc j) n) false
+-- the sequence is 0 at j, j+1 and so on, n of them
+unfoldable pub zeros : (ℕ → ℕ) → ℕ → ℕ → Bool
+zeros s j zero = true
+zeros s j (suc n) = cond (eqb (s j) 0) (zeros s (suc j) n) false
+
+-- the n syndromes from j on are 0
+abbrev pub syndromes-vanish : Field → List Bool → ℕ → ℕ → Bool
+syndromes-vanish F w = zeros (syndrome F w)

@@ -7,6 +7,7 @@ use native.Mathlib.Nat.{le-of-suc-le-suc, not-suc-le-zero}
 use native.Mathlib.Omega.{arith}
 use lib.Dec.{T, eqb, eqb→eq}
 use lib.ListN.{length, getD}
+use Rattle.std.proofs.shelf.Tests.{eqb-true}
 use Rattle.gf2.specs.Polynomials.{power as power-under}
 use Rattle.gf2.specs.Fields.{alpha, top, modulus-tail, product, power, Powers-of-alpha}
 use Rattle.gf2.specs.Product.{times-x}
@@ -25,7 +26,7 @@ unfolding steps
 head F x y ys t = go (eqb y x) refl t
   where
     go : (b : Bool) → eqb y x ≡ b → T (elim b [ true ↦ steps F (times-x (top F) (modulus-tail F) x) ys | false ↦ false ]) → (y ≡ x) × T (steps F (times-x (top F) (modulus-tail F) x) ys)
-    go true q t = (eqb→eq y x (subst T (sym q) tt), t)
+    go true q t = (eqb-true y x q, t)
     go false q t = absurd t
 
 next : (F : Field) (x : ℕ) (xs : List ℕ) → T (steps F x xs) → (i : ℕ) → suc i < length xs → getD xs (suc i) 0 ≡ product F alpha (getD xs i 0)

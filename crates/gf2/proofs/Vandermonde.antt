@@ -16,13 +16,17 @@ pub xor-eq : (a b : ℕ) → a ⊕ b ≡ 0 → a ≡ b
 xor-eq a b e =
     sym (xor-zero-r a) ∙ ap (bitXor a) (sym (xor-self b)) ∙ sym (xor-assoc a b b) ∙ ap (λ (x : ℕ). x ⊕ b) e
 
-pub all-map : {P Q : ℕ → Type 0} → ((x : ℕ) → P x → Q x) → (xs : List ℕ) → All P xs → All Q xs
+pub all-map : {X : Type 0} {P Q : X → Type 0} → ((x : X) → P x → Q x) → (xs : List X) → All P xs → All Q xs
 all-map f [] h = tt
 all-map f (x ∷ xs) h = (f x (h .0), all-map f xs (h .1))
 
+pub all-map2 : {X : Type 0} {P Q R : X → Type 0} → ((x : X) → P x → Q x → R x) → (xs : List X) → All P xs → All Q xs → All R xs
+all-map2 f [] h g = tt
+all-map2 f (x ∷ xs) h g = (f x (h .0) (g .0), all-map2 f xs (h .1) (g .1))
+
 pub all-map3 : {P Q R S : ℕ → Type 0} → ((x : ℕ) → P x → Q x → R x → S x) → (xs : List ℕ) → All P xs → All Q xs → All R xs → All S xs
-all-map3 f [] h g k = tt
-all-map3 f (x ∷ xs) h g k = (f x (h .0) (g .0) (k .0), all-map3 f xs (h .1) (g .1) (k .1))
+all-map3 {P} {Q} {R} {S} f xs h g k =
+    all-map2 {P = λ x. R x → S x} {Q = R} {R = S} (λ x s r. s r) xs (all-map2 {P = P} {Q = Q} {R = λ x. R x → S x} f xs h g) k
 
 module _ (k : ℕ) (m : ℕ → ℕ → ℕ) (F : IsField k m) where
   open IsField F using (nontrivial, no-zero-divisors)

@@ -20,7 +20,7 @@ unfoldable pub value : (ℕ → ℕ → ℕ) → List ℕ → ℕ → ℕ
 value mul [] z = 0
 value mul (c ∷ cs) z = bitXor c (mul z (value mul cs z))
 
-abbrev pub All : (ℕ → Type 0) → List ℕ → Type 0
+abbrev pub All : {X : Type 0} → (X → Type 0) → List X → Type 0
 All P [] = Unit
 All P (x ∷ xs) = P x × All P xs
 

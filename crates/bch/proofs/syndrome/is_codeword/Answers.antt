@@ -11,13 +11,13 @@ use Rattle.std.proofs.shelf.Tests.{ne-eqb}
 use Rattle.gf2.specs.declared.field.Field.{Field}
 use Rattle.gf2.specs.Words.{bits}
 use Rattle.bch.specs.Code.{syndrome}
-use Rattle.bch.specs.Decoding.{syndromes-vanish}
+use Rattle.bch.specs.Decoding.{syndromes-vanish, zeros}
 use Rattle.bch.proofs.syndrome.is_codeword.Needs as need
 
 module _ (F : Field) (w : List Bool) where
   -- the test at k + 1
   now-at : (k n : ℕ) → k < n → syndromes-vanish F w (k + 1) (n - k) ≡ cond (eqb (syndrome F w (k + 1)) 0) (syndromes-vanish F w (k + 1 + 1) (n - (k + 1))) false
-  unfolding syndromes-vanish
+  unfolding zeros
   now-at k n h =
       ap (syndromes-vanish F w (k + 1)) (let e : n - k ≡ suc (n - (k + 1)) = omega arith in e)
       ∙ ap (λ (i : ℕ). cond (eqb (syndrome F w (k + 1)) 0) (syndromes-vanish F w i (n - (k + 1))) false) (sym (add-one (k + 1)))
@@ -30,7 +30,7 @@ module _ (F : Field) (w : List Bool) where
       sym (e ∙ now-at k n h ∙ ap (λ (t : Bool). cond t (syndromes-vanish F w (k + 1 + 1) (n - (k + 1))) false) (ne-eqb (syndrome F w (k + 1)) 0 z))
 
   ends : (b : Bool) (k n : ℕ) → n ≤ k → b ≡ syndromes-vanish F w (k + 1) (n - k) → true ≡ b
-  unfolding syndromes-vanish
+  unfolding zeros
   ends b k n h e = sym (e ∙ ap (syndromes-vanish F w (k + 1)) (let e : n - k ≡ 0 = omega arith in e))
 
 pub returns-then-syndrome-ne0 : need.returns-then-syndrome-ne0

@@ -13,17 +13,6 @@ use Rattle.bch.proofs.Runs as runs
 use Rattle.bch.proofs.syndrome.syndrome.Needs as need
 use Rattle.bch.proofs.syndrome.syndrome.Needs.{then-is-set, else-is-set}
 
-abbrev next : (ℕ → ℕ → ℕ) → ℕ → ℕ → Bool → ℕ
-next m z s b = bitXor (m z s) (cond b 1 0)
-
-more : (m : ℕ → ℕ → ℕ) (z s : ℕ) (b : Bool) (bs : List Bool) → horner m z s (b ∷ bs) ≡ horner m z (next m z s b) bs
-unfolding horner
-more m z s b bs = refl
-
-none : (m : ℕ → ℕ → ℕ) (z s : ℕ) → horner m z s [] ≡ s
-unfolding horner
-none m z s = refl
-
 pub loop-skip-again : need.loop-skip-again
 loop-skip-again c =
     let m = product (c .args .field) in
@@ -37,7 +26,7 @@ loop-skip-again c =
       | else-is-set y ↦ y .sum-is ∙ sym (xor-zero-r (c .product-sum .result))
           ∙ ap₂ (λ (x : ℕ) (b : Bool). bitXor x (cond b 1 0)) (c .product-sum .ensures .product-of-the-elements) (y .if-is-set .ensures tt .the-bit-there)
     ] in
-    runs.turn (horner m z) (next m z) (more m z) (none m z) s (c .if-is-set .sum) w i (c .args .count) (horner m z 0 (take (c .args .count) w)) (c .loop-skip-test .taken) (c .pre .enough) v (c .loop-skip .inv)
+    runs.turn (m z) 1 s (c .if-is-set .sum) w i (c .args .count) (horner m z 0 (take (c .args .count) w)) (c .loop-skip-test .taken) (c .pre .enough) v (c .loop-skip .inv)
 
 pub returns : need.returns
 returns c =
@@ -47,7 +36,7 @@ returns c =
     let k = c .args .count in
     record {
       value-at-that-power =
-          runs.end (horner (product F) z) (next (product F) z) (more (product F) z) (none (product F) z) (c .loop-skip .sum) w (c .loop-skip .skip) k (horner (product F) z 0 (take k w)) (c .loop-skip-test .left) (c .pre .enough) (c .loop-skip .inv)
+          runs.end (product F z) 1 (c .loop-skip .sum) w (c .loop-skip .skip) k (horner (product F) z 0 (take k w)) (c .loop-skip-test .left) (c .pre .enough) (c .loop-skip .inv)
           ∙ horner-0 (width F) (product F) (field F) z (take k w)
           ∙ ap (λ (x : ℕ). word-value (product F) x (take k w)) (c .power-point .ensures .product-of-that-many);
     }

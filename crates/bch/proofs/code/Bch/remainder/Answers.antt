@@ -12,17 +12,6 @@ use Rattle.bch.proofs.Runs as runs
 use Rattle.bch.proofs.code.Bch.remainder.Needs as need
 use Rattle.bch.proofs.code.Bch.remainder.Needs.{then-is-set, else-is-set}
 
-abbrev next : ℕ → ℕ → ℕ → Bool → ℕ
-next n g s b = bitXor (times-x n g s) (cond b g 0)
-
-more : (n g s : ℕ) (b : Bool) (bs : List Bool) → remainder n g s (b ∷ bs) ≡ remainder n g (next n g s b) bs
-unfolding remainder
-more n g s b bs = refl
-
-none : (n g s : ℕ) → remainder n g s [] ≡ s
-unfolding remainder
-none n g s = refl
-
 pub loop-skip-again : need.loop-skip-again
 loop-skip-again c =
     let C = c .args .self in
@@ -39,7 +28,7 @@ loop-skip-again c =
           y .register-is ∙ sym (xor-zero-r (c .times-x-register .result))
           ∙ ap₂ bitXor (c .times-x-register .ensures .moves-up-and-reduces) (ap (λ (b : Bool). cond b g 0) (y .if-is-set .ensures tt .the-bit-there))
     ] in
-    runs.turn (remainder n g) (next n g) (more n g) (none n g) (c .loop-skip .register) (c .if-is-set .register) w i (c .args .count) (checks-number C (take (c .args .count) w)) (c .loop-skip-test .taken) (c .pre .enough) v (c .loop-skip .inv)
+    runs.turn (times-x n g) g (c .loop-skip .register) (c .if-is-set .register) w i (c .args .count) (checks-number C (take (c .args .count) w)) (c .loop-skip-test .taken) (c .pre .enough) v (c .loop-skip .inv)
 
 pub returns : need.returns
 returns c =
@@ -49,6 +38,6 @@ returns c =
     let w = bits (c .args .bytes .now) in
     record {
       of-those-bits =
-          runs.end (remainder n g) (next n g) (more n g) (none n g) (c .loop-skip .register) w (c .loop-skip .skip) (c .args .count) (checks-number C (take (c .args .count) w))
+          runs.end (times-x n g) g (c .loop-skip .register) w (c .loop-skip .skip) (c .args .count) (checks-number C (take (c .args .count) w))
           (c .loop-skip-test .left) (c .pre .enough) (c .loop-skip .inv);
     }
