@@ -1,10 +1,10 @@
 -- The steps of the search together are the decoder, which finds the codeword at most t bits away exactly if there is one.
-use mathlib.Core.Path.{_≡_, refl, sym, ap, ap₂, _∙_, subst}
+use mathlib.Core.Path.{_≡_, refl, sym, ap, ap₂, _∙_}
 use mathlib.Core.Bool.{Bool, true, false, cond}
 use mathlib.Core.List.{List, [], _∷_}
 use Prim.Native.Nat.{ℕ, zero, suc, _+_, _-_, _^_, _≤_, _<_}
 use native.Mathlib.Omega.{arith}
-use lib.Dec.{T, eqb, leb, leb→le, le→leb}
+use lib.Dec.{leb}
 use lib.ListN.{length, take, drop}
 use Rattle.std.proofs.shelf.Tests.{le-leb, lt-leb}
 use Rattle.gf2.specs.declared.field.Field.{Field}
@@ -19,19 +19,14 @@ use Rattle.bch.specs.Code.{syndrome, Near}
 use Rattle.bch.specs.Settings.{field, errors, word-bits}
 use Rattle.bch.specs.Nearest.{Corrected, Left-alone}
 use Rattle.bch.specs.Elimination.{met-all, sequence, unit-rows}
-use Rattle.bch.specs.Decoding.{all-vanish, marks, inverse-or-0, syndromes-vanish, root-at, root-marks, zeros}
+use Rattle.bch.specs.Decoding.{all-vanish, inverse-or-0, syndromes-vanish, root-at, root-marks, zeros}
 use Rattle.bch.proofs.Decoder as decoder
-use Rattle.bch.proofs.Flips.{marks-ext}
+use Rattle.bch.proofs.Flips.{marks-ext, marks-length}
 use Rattle.bch.proofs.Padded.{same-roots}
 use Rattle.bch.proofs.Points as points
 use Rattle.bch.proofs.Settings.{tested}
 use Rattle.bch.proofs.Zeros.{same-zeros}
 use Rattle.bch.proofs.AnyPoints.{units, locator-sum, flips, decode, found, none}
-
-pub marks-length : (f : ℕ → Bool) (n : ℕ) → length (marks f n) ≡ n
-unfolding marks
-marks-length f zero = refl
-marks-length f (suc n) = ap suc (marks-length f n)
 
 -- the tests on sums and on syndromes are one
 vanish-same : (F : Field) (w : List Bool) (j n : ℕ) → zeros (locator-sum (product F) (power F alpha) w) j n ≡ syndromes-vanish F w j n

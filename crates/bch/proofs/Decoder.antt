@@ -3,14 +3,14 @@ use mathlib.Core.Path.{_≡_, refl, sym, ap, ap₂, _∙_, subst}
 use mathlib.Core.Bool.{Bool, true, false, cond}
 use mathlib.Core.List.{List, [], _∷_}
 use mathlib.Core.Logic.{_≢_, _⊎_, inl, inr}
-use Prim.Native.Nat.{ℕ, zero, suc, _+_, _^_, _≤_, _<_}
+use Prim.Native.Nat.{ℕ, suc, _+_, _^_, _≤_, _<_}
 use native.Mathlib.Omega.{arith}
-use native.Mathlib.Decide.{ℕ-discrete}
 use lib.ListN.{length}
-use lib.Dec.{T, eqb, eqb→eq, leb, leb→le, le→leb}
+use lib.Dec.{T, eqb, leb}
 use lib.Bits.{bitXor, xor-zero-r, xor-self}
 use Rattle.std.proofs.shelf.Tests.{eqb-true, leb-true, le-leb}
-use Rattle.gf2.specs.Polynomials.{power, power-sum, All, Distinct, Nonzero}
+use Rattle.std.specs.shelf.Lists.{All}
+use Rattle.gf2.specs.Polynomials.{power, power-sum, Distinct, Nonzero}
 use Rattle.bch.specs.Elimination.{against, met-all}
 use Rattle.gf2.specs.Words.{plus, add, weight}
 use Rattle.gf2.proofs.Sums.{add-length, add-back}
@@ -21,13 +21,9 @@ use Rattle.gf2.proofs.PowerLaws as powers
 use Rattle.gf2.proofs.Vandermonde as v
 use Rattle.bch.proofs.Kernel as ker
 use Rattle.bch.proofs.Kernel.{Member}
+use Rattle.bch.proofs.Flips.{marks-length}
 use Rattle.bch.proofs.Zeros.{zero-at, all-zeros}
 use Rattle.bch.proofs.AnyPoints.{units, locator-sum, Sums-vanish, flips, decode, found, none}
-
-marks-length : (f : ℕ → Bool) (n : ℕ) → length (marks f n) ≡ n
-unfolding marks
-marks-length f zero = refl
-marks-length f (suc n) = ap suc (marks-length f n)
 
 -- the points of the set bits
 locs : (ℕ → ℕ) → List Bool → List ℕ

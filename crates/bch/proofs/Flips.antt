@@ -6,8 +6,13 @@ use Prim.Native.Nat.{ℕ, zero, suc, _+_, _-_, _≤_, _<_}
 use native.Mathlib.Omega.{arith}
 use lib.ListN.{length, getD, set, replicate}
 use Rattle.gf2.specs.Words.{plus, add, weight}
-use Rattle.gf2.proofs.Sums.{add-nil}
+use Rattle.gf2.proofs.Sums.{add-nil, plus-zero}
 use Rattle.bch.specs.Decoding.{marks}
+
+pub marks-length : (f : ℕ → Bool) (n : ℕ) → length (marks f n) ≡ n
+unfolding marks
+marks-length f zero = refl
+marks-length f (suc n) = ap suc (marks-length f n)
 
 -- n bits of which the last i are marked by f, the others not
 abbrev pub last-marks : (ℕ → Bool) → ℕ → ℕ → List Bool
@@ -55,14 +60,10 @@ pub flip-none : (f : ℕ → Bool) (w : List Bool) (n : ℕ) → n ≤ length w 
 unfolding marks
 flip-none f w n h = sym (ap (λ (j : ℕ). add w (replicate j false ++ [])) (let e : n - 0 ≡ n = omega arith in e) ∙ go w n h)
   where
-    keep : (b : Bool) → plus b false ≡ b
-    keep true = refl
-    keep false = refl
-
     go : (w : List Bool) (n : ℕ) → n ≤ length w → add w (replicate n false ++ []) ≡ w
     go w zero h = add-nil w
     go [] (suc n) h = absurd (omega arith)
-    go (b ∷ w) (suc n) h = ap₂ _∷_ (keep b) (go w n (omega arith))
+    go (b ∷ w) (suc n) h = ap₂ _∷_ (plus-zero b) (go w n (omega arith))
 
 pub flip-all : (f : ℕ → Bool) (w : List Bool) (n i : ℕ) → n ≤ i → i ≤ n → add w (last-marks f n i) ≡ add w (marks f n)
 flip-all f w n i h l = ap₂ (λ (j k : ℕ). add w (replicate j false ++ marks f k)) (let e : n - i ≡ 0 = omega arith in e) (let e : i ≡ n = omega arith in e)

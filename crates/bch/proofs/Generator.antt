@@ -1,5 +1,4 @@
 -- The generator's test: x^(top+1) + tail is 0 at several powers of alpha in a row.
-use mathlib.Core.Path.{_≡_}
 use mathlib.Core.Bool.{Bool}
 use mathlib.Core.List.{List, _++_}
 use Prim.Native.Nat.{ℕ, suc, _+_, _^_, _<_}

@@ -10,7 +10,9 @@ use lib.ListN.{length, take, drop, length-drop, length-append}
 use lib.Bits.{bitXor}
 use Rattle.gf2.specs.declared.field.Field.{Field}
 use Rattle.gf2.specs.Words.{plus, add, weight, distance, bits-of}
-use Rattle.gf2.specs.Polynomials.{power as power-under, All}
+use Rattle.std.specs.shelf.Lists.{All}
+use Rattle.std.proofs.shelf.Elements.{all-append}
+use Rattle.gf2.specs.Polynomials.{power as power-under}
 use Rattle.gf2.specs.Fields.{width, product, power, alpha}
 use Rattle.gf2.proofs.Five as five
 use Rattle.gf2.proofs.PowerLaws as powers
@@ -57,7 +59,7 @@ at-orbits : (F : Field) (w : List Bool) (i : ℕ) → Codeword F i w
 unfolding orbits
 at-orbits F w zero z = tt
 at-orbits F w (suc i) z =
-    unique.all-append (width F) (product F) (five.field F) (λ e. word-value (product F) (power F alpha e) w ≡ 0) (orbits (2 ^ width F - 1) (width F) i)
+    all-append (λ e. word-value (product F) (power F alpha e) w ≡ 0) (orbits (2 ^ width F - 1) (width F) i)
     (twice (2 ^ width F - 1) (width F) (suc (i + i))) (at-orbits F w i (λ j l q. z j l (omega arith)))
     (unique.twice-roots (width F) (product F) (five.field F) alpha (2 ^ width F - 1) (five.alpha-generates F .around) w (width F) (suc (i + i))
     (z (suc (i + i)) (omega arith) (omega arith)))

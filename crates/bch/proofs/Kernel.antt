@@ -7,17 +7,20 @@ use Prim.Native.Nat.{ℕ, zero, suc, _+_, _^_, _≤_, _<_}
 use native.Mathlib.Omega.{arith}
 use native.Mathlib.Decide.{ℕ-discrete}
 use lib.ListN.{length}
-use lib.Dec.{T, eqb, eqb→eq}
+use lib.Dec.{T, eqb}
 use lib.Pow.{pow-pos}
 use lib.Bits.{bitXor, xor-assoc, xor-zero-r, xor-self, xor-lt}
 use Rattle.std.proofs.shelf.Tests.{eqb-true}
-use Rattle.gf2.specs.Polynomials.{power, power-sum, All, Distinct, Nonzero}
+use Rattle.std.specs.shelf.Lists.{All}
+use Rattle.std.proofs.shelf.Elements.{all-weaker}
+use Rattle.gf2.specs.Polynomials.{power, power-sum, Distinct, Nonzero}
 use Rattle.bch.specs.Elimination.{against, add-scaled, cleared, met-one, met-all}
 use Rattle.gf2.proofs.Ring.{_⊕_, xor4}
 use Rattle.gf2.specs.Fields.{IsField, IsRing}
 use Rattle.gf2.proofs.PowerLaws as powers
 use Rattle.gf2.proofs.Vandermonde as v
-use Rattle.gf2.proofs.Vandermonde.{xor-eq, all-map, all-map2}
+use Rattle.gf2.proofs.Vandermonde.{xor-eq, all-map2}
+use Rattle.bch.proofs.Kept.{met-all-keeps, units-short, sum-short}
 use Rattle.bch.proofs.AnyPoints.{units}
 
 abbrev pub Member : ℕ → List ℕ → Type 0
@@ -133,29 +136,7 @@ module _ (k : ℕ) (m : ℕ → ℕ → ℕ) (F : IsField k m) (inv : ℕ → �
         split true t ih = (eqb-true (against m p s i) 0 t, ih)
         split false t ih = cleared-meets p ps (λ y. subst T t (subst (λ (y : ℕ). T (eqb y 0)) (sym y) tt))
 
-    -- what is closed under add-scaled is kept
-    module _ (P : List ℕ → Type 0) (stable : (a : ℕ) (p q : List ℕ) → P p → P q → P (add-scaled m a p q)) where
-      cleared-keeps : (p : List ℕ) (ps : List (List ℕ)) → P p → All P ps → All P (cleared m inv s i p ps)
-      unfolding cleared
-      cleared-keeps p [] hp h = tt
-      cleared-keeps p (q ∷ ps) hp h = (stable (m (against m q s i) (inv (against m p s i))) p q hp (h .0), cleared-keeps p ps hp (h .1))
-
-      keeps : (ps : List (List ℕ)) → All P ps → All P (met-one m inv s i ps)
-      unfolding met-one
-      keeps [] h = tt
-      keeps (p ∷ ps) h = split (eqb (against m p s i) 0) (keeps ps (h .1))
-        where
-          split : (b : Bool) → All P (met-one m inv s i ps) → All P (elim b [ true ↦ p ∷ met-one m inv s i ps | false ↦ cleared m inv s i p ps ])
-          split true ih = (h .0, ih)
-          split false ih = cleared-keeps p ps (h .0) (h .1)
-
   -- ---- several equations
-  met-all-keeps : (s : ℕ → ℕ) (P : List ℕ → Type 0) → ((a : ℕ) (p q : List ℕ) → P p → P q → P (add-scaled m a p q))
-      → (n i : ℕ) (ps : List (List ℕ)) → All P ps → All P (met-all m inv s n i ps)
-  unfolding met-all
-  met-all-keeps s P stable zero i ps h = h
-  met-all-keeps s P stable (suc n) i ps h = met-all-keeps s P stable n (suc i) (met-one m inv s i ps) (keeps s i P stable ps h)
-
   zero-stable : (s : ℕ → ℕ) (i a : ℕ) (p q : List ℕ) → against m p s i ≡ 0 → against m q s i ≡ 0 → against m (add-scaled m a p q) s i ≡ 0
   zero-stable s i a p q hp hq = against-add-scaled a p q s i ∙ ap₂ (λ (x y : ℕ). m a x ⊕ y) hp hq ∙ ap (λ (x : ℕ). x ⊕ 0) (zero-product a)
 
@@ -166,7 +147,7 @@ module _ (k : ℕ) (m : ℕ → ℕ → ℕ) (F : IsField k m) (inv : ℕ → �
     where
       go : (suc i ≤ j → j < suc i + n → All (λ p. against m p s j ≡ 0) (met-all m inv s n (suc i) (met-one m inv s i ps))) → Dec (j ≡ i) → All (λ p. against m p s j ≡ 0) (met-all m inv s n (suc i) (met-one m inv s i ps))
       go ih (yes e) =
-          met-all-keeps s (λ p. against m p s j ≡ 0) (zero-stable s j) n (suc i) (met-one m inv s i ps)
+          met-all-keeps m inv s (λ p. against m p s j ≡ 0) (zero-stable s j) n (suc i) (met-one m inv s i ps)
           (subst (λ (x : ℕ). All (λ p. against m p s x ≡ 0) (met-one m inv s i ps)) (sym e) (meets s i ps))
       go ih (no e) = ih (omega arith) (omega arith)
 
@@ -299,7 +280,7 @@ module _ (k : ℕ) (m : ℕ → ℕ → ℕ) (F : IsField k m) (inv : ℕ → �
   locator-roots [] = tt
   locator-roots (x ∷ xs) = (
     locator-value x xs x ∙ ap (λ (y : ℕ). m y (ev (locator xs) x)) (xor-self x) ∙ v.nought-l k m F (ev (locator xs) x),
-    all-map (λ y e. locator-value x xs y ∙ ap (m (x ⊕ y)) e ∙ zero-product (x ⊕ y)) xs (locator-roots xs),
+    all-weaker _ _ (λ y e. locator-value x xs y ∙ ap (m (x ⊕ y)) e ∙ zero-product (x ⊕ y)) xs (locator-roots xs),
   )
 
   locator-only : (xs : List ℕ) (y : ℕ) → y < 2 ^ k → All (λ x. x < 2 ^ k) xs → ev (locator xs) y ≡ 0 → Member y xs
@@ -333,7 +314,7 @@ module _ (k : ℕ) (m : ℕ → ℕ → ℕ) (F : IsField k m) (inv : ℕ → �
 
     -- a point at which all are 0 that are left is an error point
     pub only : (y : ℕ) → y < 2 ^ k → All (λ p. ev p y ≡ 0) left → Member y xs
-    only y hy h = locator-only xs y hy (all-map (λ x q. q .0) xs pts) value
+    only y hy h = locator-only xs y hy (all-weaker (Nonzero k) (λ x. x < 2 ^ k) (λ x q. q .0) xs pts) value
       where
         E : List ℕ
         E = locator xs
@@ -351,23 +332,6 @@ module _ (k : ℕ) (m : ℕ → ℕ → ℕ) (F : IsField k m) (inv : ℕ → �
         value = (sym (spans (power m y) 0) ∙ sp .1 (power m y) 0 ∙ dot-0 (sp .0) (met-all m inv s t 1 (units (suc t))) (power m y) 0 h)
 
     -- and every error point is such a point
-    add-scaled-length : (a : ℕ) (p q : List ℕ) (n : ℕ) → length p ≤ n → length q ≤ n → length (add-scaled m a p q) ≤ n
-    unfolding add-scaled
-    add-scaled-length a [] q n hp hq = hq
-    add-scaled-length a (c ∷ p) [] zero hp hq = absurd (omega arith)
-    add-scaled-length a (c ∷ p) [] (suc n) hp hq = let h = add-scaled-length a p [] n (omega arith) (omega arith) in omega arith
-    add-scaled-length a (c ∷ p) (d ∷ q) zero hp hq = absurd (omega arith)
-    add-scaled-length a (c ∷ p) (d ∷ q) (suc n) hp hq = let h = add-scaled-length a p q n (omega arith) (omega arith) in omega arith
-
-    all-cons : (n : ℕ) (ps : List (List ℕ)) → All (λ p. length p ≤ n) ps → All (λ p. length p ≤ suc n) (map (λ p. 0 ∷ p) ps)
-    all-cons n [] h = tt
-    all-cons n (p ∷ ps) h = (let l = h .0 in omega arith, all-cons n ps (h .1))
-
-    units-length : (n : ℕ) → All (λ p. length p ≤ n) (units n)
-    unfolding units
-    units-length zero = tt
-    units-length (suc n) = (omega arith, all-cons n (units n) (units-length n))
-
     all-for-each : (P : ℕ → List ℕ → Type 0) (A : ℕ → Type 0) (ps : List (List ℕ)) → ((j : ℕ) → A j → All (P j) ps) → All (λ p. (j : ℕ) → A j → P j p) ps
     all-for-each P A [] h = tt
     all-for-each P A (p ∷ ps) h = (λ j a. h j a .0, all-for-each P A ps (λ j a. h j a .1))
@@ -375,7 +339,7 @@ module _ (k : ℕ) (m : ℕ → ℕ → ℕ) (F : IsField k m) (inv : ℕ → �
     pub all : All (λ p. All (λ x. ev p x ≡ 0) xs) left
     all =
         all-map2 zeros left
-        (met-all-keeps s (λ p. length p ≤ suc t) (λ a p q hp hq. add-scaled-length a p q (suc t) hp hq) t 1 (units (suc t)) (units-length (suc t)))
+        (met-all-keeps m inv s (λ p. length p ≤ suc t) (sum-short m (suc t)) t 1 (units (suc t)) (units-short (suc t)))
         (all-for-each (λ j p. against m p s j ≡ 0) (λ j. (1 ≤ j) × (j < 1 + t)) left (λ j h. met-all-meets s t 1 (units (suc t)) j (h .0) (h .1)))
       where
         zeros : (p : List ℕ) → length p ≤ suc t → ((j : ℕ) → (1 ≤ j) × (j < 1 + t) → against m p s j ≡ 0) → All (λ x. ev p x ≡ 0) xs

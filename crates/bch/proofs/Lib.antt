@@ -1,4 +1,5 @@
 pub mod Zeros
+pub mod Kept
 pub mod AnyPoints
 pub mod Orbits
 pub mod Kernel

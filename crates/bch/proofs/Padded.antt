@@ -7,10 +7,10 @@ use native.Mathlib.Omega.{arith}
 use lib.ListN.{length, take}
 use lib.Bits.{bitXor, xor-zero-r}
 use lib.Dec.{eqb}
-use Rattle.gf2.specs.Polynomials.{power, All}
+use Rattle.gf2.specs.Polynomials.{power}
 use Rattle.bch.specs.Decoding.{all-vanish}
-use Rattle.bch.specs.Elimination.{against, add-scaled, cleared, met-one, met-all}
-use Rattle.bch.specs.Elimination.{unit-rows}
+use Rattle.bch.specs.Elimination.{against, add-scaled, cleared, met-one, met-all, unit-rows}
+use Rattle.bch.proofs.Kept.{Short, met-one-keeps, met-all-keeps, units-short, sum-short}
 use Rattle.bch.proofs.AnyPoints.{units}
 
 -- the polynomial with w coefficients
@@ -18,9 +18,6 @@ unfoldable pub wide : ℕ → List ℕ → List ℕ
 wide zero p = []
 wide (suc w) [] = 0 ∷ wide w []
 wide (suc w) (c ∷ p) = c ∷ wide w p
-
-abbrev pub Short : ℕ → List (List ℕ) → Type 0
-Short n ps = All (λ p. length p ≤ n) ps
 
 pub rows-of-units : (t : ℕ) → t < 6 → take (t + 1) unit-rows ≡ map (wide 6) (units (suc t))
 unfolding units wide
@@ -31,15 +28,6 @@ rows-of-units (suc (suc (suc zero))) h = refl
 rows-of-units (suc (suc (suc (suc zero)))) h = refl
 rows-of-units (suc (suc (suc (suc (suc zero))))) h = refl
 rows-of-units (suc (suc (suc (suc (suc (suc t)))))) h = absurd (omega arith)
-
-cons-short : (n : ℕ) (ps : List (List ℕ)) → Short n ps → Short (suc n) (map (λ p. 0 ∷ p) ps)
-cons-short n [] h = tt
-cons-short n (p ∷ ps) h = (let l = h .0 in omega arith, cons-short n ps (h .1))
-
-pub units-short : (n : ℕ) → Short n (units n)
-unfolding units
-units-short zero = tt
-units-short (suc n) = (omega arith, cons-short n (units n) (units-short n))
 
 module _ (m : ℕ → ℕ → ℕ) (left : (a : ℕ) → m 0 a ≡ 0) (right : (a : ℕ) → m a 0 ≡ 0) where
   against-zeros : (w : ℕ) (s : ℕ → ℕ) (i : ℕ) → against m (wide w []) s i ≡ 0
@@ -65,29 +53,7 @@ module _ (m : ℕ → ℕ → ℕ) (left : (a : ℕ) → m 0 a ≡ 0) (right : (
   add-scaled-wide a (suc w) (c ∷ p) [] l u = ap₂ _∷_ (xor-zero-r (m a c)) (add-scaled-wide a w p [] (omega arith) (omega arith))
   add-scaled-wide a (suc w) (c ∷ p) (d ∷ q) l u = ap (λ (x : List ℕ). bitXor (m a c) d ∷ x) (add-scaled-wide a w p q (omega arith) (omega arith))
 
-  add-scaled-short : (a : ℕ) (p q : List ℕ) (n : ℕ) → length p ≤ n → length q ≤ n → length (add-scaled m a p q) ≤ n
-  unfolding add-scaled
-  add-scaled-short a [] q n l u = u
-  add-scaled-short a (c ∷ p) [] zero l u = absurd (omega arith)
-  add-scaled-short a (c ∷ p) [] (suc n) l u = let h = add-scaled-short a p [] n (omega arith) (omega arith) in omega arith
-  add-scaled-short a (c ∷ p) (d ∷ q) zero l u = absurd (omega arith)
-  add-scaled-short a (c ∷ p) (d ∷ q) (suc n) l u = let h = add-scaled-short a p q n (omega arith) (omega arith) in omega arith
-
   module _ (inv s s′ : ℕ → ℕ) (w n : ℕ) (fits : n ≤ w) where
-    cleared-short : (i : ℕ) (p : List ℕ) (qs : List (List ℕ)) → length p ≤ n → Short n qs → Short n (cleared m inv s′ i p qs)
-    unfolding cleared
-    cleared-short i p [] l h = tt
-    cleared-short i p (q ∷ qs) l h = (add-scaled-short (m (against m q s′ i) (inv (against m p s′ i))) p q n l (h .0), cleared-short i p qs l (h .1))
-
-    met-one-short : (i : ℕ) (ps : List (List ℕ)) → Short n ps → Short n (met-one m inv s′ i ps)
-    unfolding met-one
-    met-one-short i [] h = tt
-    met-one-short i (p ∷ ps) h = go (eqb (against m p s′ i) 0) (met-one-short i ps (h .1))
-      where
-        go : (b : Bool) → Short n (met-one m inv s′ i ps) → Short n (elim b [ true ↦ p ∷ met-one m inv s′ i ps | false ↦ cleared m inv s′ i p ps ])
-        go true ih = (h .0, ih)
-        go false ih = cleared-short i p ps (h .0) (h .1)
-
     abbrev Agree : ℕ → Type 0
     Agree i = (k : ℕ) → i ≤ k → k < i + n → s k ≡ s′ k
 
@@ -124,12 +90,7 @@ module _ (m : ℕ → ℕ → ℕ) (left : (a : ℕ) → m 0 a ≡ 0) (right : (
     met-all-wide zero i g ps h = refl
     met-all-wide (suc e) i g ps h =
         ap (met-all m inv s e (suc i)) (met-one-wide i (λ k a b. g k a (omega arith)) ps h)
-        ∙ met-all-wide e (suc i) (λ k a b. g k (omega arith) (omega arith)) (met-one m inv s′ i ps) (met-one-short i ps h)
-
-    pub met-all-short : (e i : ℕ) (ps : List (List ℕ)) → Short n ps → Short n (met-all m inv s′ e i ps)
-    unfolding met-all
-    met-all-short zero i ps h = h
-    met-all-short (suc e) i ps h = met-all-short e (suc i) (met-one m inv s′ i ps) (met-one-short i ps h)
+        ∙ met-all-wide e (suc i) (λ k a b. g k (omega arith) (omega arith)) (met-one m inv s′ i ps) (met-one-keeps m inv s′ (λ p. length p ≤ n) (sum-short m n) i ps h)
 
     pub root-wide : (y : ℕ) (ps : List (List ℕ)) → Short n ps → all-vanish m (map (wide w) ps) y ≡ all-vanish m ps y
     unfolding all-vanish
@@ -146,4 +107,4 @@ module _ (m : ℕ → ℕ → ℕ) (left : (a : ℕ) → m 0 a ≡ 0) (right : (
       ∙ ap (λ (x : List (List ℕ)). all-vanish m x y)
       (met-all-wide inv s s′ 6 (suc t) (omega arith) t 1 (λ k a b. g k a (omega arith)) (units (suc t)) (units-short (suc t)))
       ∙ root-wide inv s s′ 6 (suc t) (omega arith) y (met-all m inv s′ t 1 (units (suc t)))
-      (met-all-short inv s s′ 6 (suc t) (omega arith) t 1 (units (suc t)) (units-short (suc t)))
+      (met-all-keeps m inv s′ (λ p. length p ≤ suc t) (sum-short m (suc t)) t 1 (units (suc t)) (units-short (suc t)))

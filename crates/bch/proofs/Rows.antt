@@ -1,14 +1,14 @@
 -- One turn of each loop of the elimination, on lists.
-use mathlib.Core.Path.{_≡_, refl, sym, ap, ap₂, _∙_, subst}
+use mathlib.Core.Path.{_≡_, refl, sym, ap, ap₂, _∙_}
 use mathlib.Core.Bool.{Bool, true, false, cond}
 use mathlib.Core.List.{List, [], _∷_, _++_}
 use mathlib.Core.Logic.{_≢_}
-use Prim.Native.Nat.{ℕ, zero, suc, _+_, _-_, _≤_, _<_}
+use Prim.Native.Nat.{ℕ, suc, _+_, _-_, _≤_, _<_}
 use native.Mathlib.Omega.{arith}
 use lib.ListN.{length, getD, set, take, drop}
 use lib.Bits.{bitXor}
-use lib.Dec.{T, eqb, eqb→eq}
-use Rattle.std.proofs.shelf.Lists.{append-nil, append-assoc, drop-all, drop-more, drop-set-lt, take-more, take-more-set, at-drop-all}
+use lib.Dec.{eqb}
+use Rattle.std.proofs.shelf.Lists.{append-nil, append-assoc, drop-all, drop-more, drop-set-lt, take-more, take-more-set, at-drop-all, take-all}
 use Rattle.std.proofs.shelf.Tests.{ne-eqb}
 use Rattle.gf2.specs.Polynomials.{power}
 use Rattle.bch.specs.Decoding.{all-vanish}
@@ -41,13 +41,7 @@ module _ (m : ℕ → ℕ → ℕ) where
   pub add-scaled-end : (a : ℕ) (p r q : List ℕ) (k : ℕ) → length p ≤ k → length r ≤ k → take k r ++ add-scaled m a (drop k p) (drop k r) ≡ q → r ≡ q
   unfolding add-scaled
   add-scaled-end a p r q k hp hr e =
-      sym (append-nil r) ∙ ap₂ _++_ (sym (take-all′ k r hr)) (sym (ap₂ (add-scaled m a) (drop-all k p hp) (drop-all k r hr))) ∙ e
-    where
-      take-all′ : (k : ℕ) (r : List ℕ) → length r ≤ k → take k r ≡ r
-      take-all′ zero [] h = refl
-      take-all′ zero (x ∷ r) h = absurd (omega arith)
-      take-all′ (suc k) [] h = refl
-      take-all′ (suc k) (x ∷ r) h = ap (λ (ys : List ℕ). x ∷ ys) (take-all′ k r (omega arith))
+      sym (append-nil r) ∙ ap₂ _++_ (sym (take-all k r hr)) (sym (ap₂ (add-scaled m a) (drop-all k p hp) (drop-all k r hr))) ∙ e
 
   module _ (inv s : ℕ → ℕ) (i : ℕ) where
     -- what is left from k on

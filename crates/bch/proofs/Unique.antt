@@ -1,26 +1,27 @@
 -- A word that is 0 at as many distinct points as it has bits has no set bit; the points of a BCH code come with their squares.
 use mathlib.Core.Path.{_≡_, refl, sym, ap, ap₂, _∙_, subst}
 use mathlib.Core.Bool.{Bool, true, false, cond}
-use mathlib.Core.List.{List, [], _∷_, _++_, map}
+use mathlib.Core.List.{List, [], _∷_, map}
 use mathlib.Core.Logic.{_≢_}
 use Prim.Native.Nat.{ℕ, zero, suc, _+_, _%_, _^_, _≤_, _<_}
 use native.Mathlib.Nat.{zero-add}
 use native.Mathlib.Omega.{arith}
 use native.Mathlib.Decide.{decLt}
-use lib.ListN.{length}
+use lib.ListN.{length, length-map}
 use lib.Dec.{T, eqb, ltb, eqb-refl, ltb→lt}
 use lib.Bits.{bitXor, xor-comm, xor-assoc, xor-zero-r, xor-self}
-use lib.Pow.{pow-pos}
-use Rattle.gf2.specs.Polynomials.{power, value, All, Distinct, Element}
+use Rattle.std.specs.shelf.Lists.{All}
+use Rattle.std.proofs.shelf.Elements.{all-weaker, all-map}
+use Rattle.gf2.specs.Polynomials.{power, value, Distinct, Element}
 use Rattle.gf2.specs.Words.{weight}
 use Rattle.bch.specs.Code.{word-value}
 use Rattle.bch.proofs.Orbits.{twice, notIn, differ}
 use Rattle.gf2.proofs.Ring.{_⊕_, xor4}
 use Rattle.gf2.specs.Fields.{IsField, IsRing}
 use Rattle.gf2.proofs.Vandermonde as v
-use Rattle.gf2.proofs.Vandermonde.{all-map}
 use Rattle.gf2.proofs.Roots.{few-roots, value-lt}
 use Rattle.gf2.proofs.PowerLaws as powers
+use Rattle.bch.proofs.Horner as horner
 
 -- the bits, lowest first, before cs
 low-first : List Bool → List ℕ → List ℕ
@@ -44,14 +45,6 @@ module _ (k : ℕ) (m : ℕ → ℕ → ℕ) (F : IsField k m) where
   open IsField F using (nontrivial, no-zero-divisors)
   open IsRing (F .ring) using (closed, commutative, associative, distributive, unit, zero-product)
 
-  bit-low : (b : Bool) → cond b 1 0 < 2 ^ k
-  bit-low true = nontrivial
-  bit-low false = pow-pos k
-
-  bit-mul : (b : Bool) (P : ℕ) → P < 2 ^ k → m P (cond b 1 0) ≡ cond b P 0
-  bit-mul true P h = commutative P 1 ∙ unit P h
-  bit-mul false P h = zero-product P
-
   low-first-value : (bs : List Bool) (cs : List ℕ) (z : ℕ) → All (Element k) cs → value m (low-first bs cs) z ≡ m (power m z (length bs)) (value m cs z) ⊕ word-value m z bs
   unfolding low-first word-value value power
   low-first-value [] cs z h = sym (xor-zero-r (m 1 (value m cs z)) ∙ unit (value m cs z) (value-lt k m F cs z h))
@@ -59,16 +52,16 @@ module _ (k : ℕ) (m : ℕ → ℕ → ℕ) (F : IsField k m) where
       let P = power m z (length bs) in
       let E = value m cs z in
       let A = cond b P 0 in
-      low-first-value bs (cond b 1 0 ∷ cs) z (bit-low b, h)
+      low-first-value bs (cond b 1 0 ∷ cs) z (horner.bit-lt k m F b, h)
       ∙ ap (λ (y : ℕ). y ⊕ word-value m z bs)
-      (distributive P (cond b 1 0) (m z E) ∙ ap₂ bitXor (bit-mul b P (powers.power-lt k m (F .ring) nontrivial z (length bs))) (sym (associative P z E) ∙ ap (λ (y : ℕ). m y E) (commutative P z))
+      (distributive P (cond b 1 0) (m z E) ∙ ap₂ bitXor (horner.bit-product k m F b P (powers.power-lt k m (F .ring) nontrivial z (length bs))) (sym (associative P z E) ∙ ap (λ (y : ℕ). m y E) (commutative P z))
       ∙ xor-comm A (m (m z P) E))
       ∙ xor-assoc (m (m z P) E) A (word-value m z bs)
 
   low-first-low : (bs : List Bool) (cs : List ℕ) → All (λ c. c < 2 ^ k) cs → All (λ c. c < 2 ^ k) (low-first bs cs)
   unfolding low-first
   low-first-low [] cs h = h
-  low-first-low (b ∷ bs) cs h = low-first-low bs (cond b 1 0 ∷ cs) (bit-low b, h)
+  low-first-low (b ∷ bs) cs h = low-first-low bs (cond b 1 0 ∷ cs) (horner.bit-lt k m F b, h)
 
   -- a set bit is a coefficient other than 0
   some-bit : (bs : List Bool) (cs : List ℕ) → (All (λ c. c ≡ 0) cs → ⊥) → All (λ c. c ≡ 0) (low-first bs cs) → ⊥
@@ -83,7 +76,7 @@ module _ (k : ℕ) (m : ℕ → ℕ → ℕ) (F : IsField k m) where
   no-bits (false ∷ bs) zs low apart h e = no-bits bs zs low apart (omega arith) e
   no-bits (true ∷ bs) zs low apart h e =
       absurd
-      (omega (arith, few-roots k m F (low-first bs (1 ∷ [])) zs (low-first-low bs (1 ∷ []) (nontrivial, tt)) (some-bit bs (1 ∷ []) one-is-not-0) low apart (all-map same zs e), low-first-length bs (1 ∷ [])))
+      (omega (arith, few-roots k m F (low-first bs (1 ∷ [])) zs (low-first-low bs (1 ∷ []) (nontrivial, tt)) (some-bit bs (1 ∷ []) one-is-not-0) low apart (all-weaker _ _ same zs e), low-first-length bs (1 ∷ [])))
     where
       one-is-not-0 : All (λ (c : ℕ). c ≡ 0) (1 ∷ []) → ⊥
       one-is-not-0 q = let z : _≡_ {A = ℕ} 1 0 = q .0 in omega arith
@@ -123,10 +116,6 @@ module _ (k : ℕ) (m : ℕ → ℕ → ℕ) (F : IsField k m) where
           (ap (λ (y : ℕ). word-value m y w) (powers.power-round k m (F .ring) nontrivial x N back (e + e) ∙ powers.power-add k m (F .ring) nontrivial x e e) ∙ word-value-square (power m x e) w ∙ ap (λ (y : ℕ). m y y) h ∙ zero-product 0),
     )
 
-  pub all-append : (P : ℕ → Type 0) (ds es : List ℕ) → All P ds → All P es → All P (ds ++ es)
-  all-append P [] es h g = g
-  all-append P (d ∷ ds) es h g = (h .0, all-append P ds es (h .1) g)
-
   -- exponents that differ below N give distinct points
   module _ (a : ℕ → ℕ) (N : ℕ) (apart : (i j : ℕ) → i < j → j < N → a i ≢ a j) where
     either : (d e : ℕ) → d < N → e < N → d ≢ e → a d ≢ a e
@@ -162,18 +151,10 @@ module _ (k : ℕ) (m : ℕ → ℕ → ℕ) (F : IsField k m) where
         let low = below (e ∷ es) (unfold differ in t) in
         (far e es (low .0) (low .1) (cond-l (notIn e es) (differ N es) r), apart-map es (cond-r (notIn e es) (differ N es) r))
 
-    all-map-in : (P : ℕ → Type 0) (es : List ℕ) → All (λ e. P (a e)) es → All P (map a es)
-    all-map-in P [] h = tt
-    all-map-in P (e ∷ es) h = (h .0, all-map-in P es (h .1))
-
-    map-long : (es : List ℕ) → length (map a es) ≡ length es
-    map-long [] = refl
-    map-long (e ∷ es) = ap suc (map-long es)
-
     pub fixed : (es : List ℕ) → T (differ N es) → ((e : ℕ) → a e < 2 ^ k) → (w : List Bool) → length w ≤ length es
         → All (λ e. word-value m (a e) w ≡ 0) es → weight w ≡ 0
     fixed es t low w h zs =
-        no-bits w (map a es) (all-map-in (λ y. y < 2 ^ k) es (every es)) (apart-map es t) (omega (arith, map-long es)) (all-map-in (λ y. word-value m y w ≡ 0) es zs)
+        no-bits w (map a es) (all-map (λ y. y < 2 ^ k) a es (every es)) (apart-map es t) (omega (arith, length-map es a)) (all-map (λ y. word-value m y w ≡ 0) a es zs)
       where
         every : (es : List ℕ) → All (λ e. a e < 2 ^ k) es
         every [] = tt

@@ -2,12 +2,13 @@
 use mathlib.Core.Path.{_≡_, refl, sym, ap, ap₂, _∙_}
 use mathlib.Core.List.{List, [], _∷_}
 use mathlib.Core.Logic.{_≢_}
-use Prim.Native.Nat.{ℕ, suc, _+_, _^_, _<_}
+use Prim.Native.Nat.{ℕ, suc, _^_, _<_}
 use native.Mathlib.Omega.{arith}
 use lib.ListN.{length}
 use lib.Bits.{bitXor, xor-comm, xor-assoc, xor-zero-r, xor-self, xor-lt}
 use lib.Pow.{pow-pos}
-use Rattle.gf2.specs.Polynomials.{value, All, Element, Few-roots}
+use Rattle.std.specs.shelf.Lists.{All}
+use Rattle.gf2.specs.Polynomials.{value, Element, Few-roots}
 use Rattle.gf2.specs.Fields.{IsField, IsRing}
 use Rattle.gf2.proofs.Ring.{_⊕_, xor4}
 use Rattle.gf2.proofs.PowerLaws as powers

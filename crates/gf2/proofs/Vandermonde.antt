@@ -6,7 +6,8 @@ use Prim.Native.Nat.{ℕ, zero, suc, _+_, _^_, _≤_, _<_}
 use native.Mathlib.Omega.{arith}
 use lib.ListN.{length}
 use lib.Bits.{bitXor, xor-assoc, xor-zero-r, xor-self, xor-lt}
-use Rattle.gf2.specs.Polynomials.{power, power-sum, All, Nonzero, Vandermonde}
+use Rattle.std.specs.shelf.Lists.{All}
+use Rattle.gf2.specs.Polynomials.{power, power-sum, Nonzero, Vandermonde}
 use Rattle.gf2.proofs.Ring.{_⊕_, xor4}
 use Rattle.gf2.specs.Fields.{IsField, IsRing}
 use Rattle.gf2.proofs.PowerLaws as powers
@@ -15,10 +16,6 @@ use Rattle.gf2.proofs.PowerLaws as powers
 pub xor-eq : (a b : ℕ) → a ⊕ b ≡ 0 → a ≡ b
 xor-eq a b e =
     sym (xor-zero-r a) ∙ ap (bitXor a) (sym (xor-self b)) ∙ sym (xor-assoc a b b) ∙ ap (λ (x : ℕ). x ⊕ b) e
-
-pub all-map : {X : Type 0} {P Q : X → Type 0} → ((x : X) → P x → Q x) → (xs : List X) → All P xs → All Q xs
-all-map f [] h = tt
-all-map f (x ∷ xs) h = (f x (h .0), all-map f xs (h .1))
 
 pub all-map2 : {X : Type 0} {P Q R : X → Type 0} → ((x : X) → P x → Q x → R x) → (xs : List X) → All P xs → All Q xs → All R xs
 all-map2 f [] h g = tt

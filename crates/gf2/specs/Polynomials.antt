@@ -5,6 +5,7 @@ use mathlib.Core.Logic.{_≢_}
 use Prim.Native.Nat.{ℕ, zero, suc, _+_, _^_, _≤_, _<_}
 use lib.Bits.{bitXor}
 use lib.ListN.{length}
+use Rattle.std.specs.shelf.Lists.{All}
 
 unfoldable pub power : (ℕ → ℕ → ℕ) → ℕ → ℕ → ℕ
 power mul x zero = 1
@@ -19,10 +20,6 @@ power-sum mul c (x ∷ xs) j = bitXor (mul (c x) (power mul x j)) (power-sum mul
 unfoldable pub value : (ℕ → ℕ → ℕ) → List ℕ → ℕ → ℕ
 value mul [] z = 0
 value mul (c ∷ cs) z = bitXor c (mul z (value mul cs z))
-
-abbrev pub All : {X : Type 0} → (X → Type 0) → List X → Type 0
-All P [] = Unit
-All P (x ∷ xs) = P x × All P xs
 
 -- no number twice
 abbrev pub Distinct : List ℕ → Type 0

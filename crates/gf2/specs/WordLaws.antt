@@ -1,17 +1,17 @@
 -- What callers may rely on of words and the bits of bytes.
 use mathlib.Core.Path.{_≡_}
 use mathlib.Core.Bool.{Bool, not}
-use mathlib.Core.List.{List, [], _∷_, _++_}
+use mathlib.Core.List.{List, _++_}
 use mathlib.Core.Logic.{_≢_}
 use Prim.Native.Nat.{ℕ, _+_, _*_, _^_, _≤_, _<_}
 use lib.ListN.{length}
+use Rattle.std.specs.shelf.Lists.{All}
 use Rattle.std.specs.declared.option.Option.the-variants.{None, Some}
 use Rattle.gf2.specs.Words.{distance, bits, bits-of, bit-number, flipped, number}
 
 -- numbers that are bytes
 abbrev pub Bytes : List ℕ → Type 0
-Bytes [] = Unit
-Bytes (b ∷ bs) = (b < 2 ^ 8) × Bytes bs
+Bytes = All (λ b. b < 2 ^ 8)
 
 pub record Bits-of-bytes : Type 0 where
   pub eight-a-byte : (bs : List ℕ) → length (bits bs) ≡ length bs * 8

@@ -2,8 +2,7 @@ use mathlib.Core.Path.{_≡_}
 use Prim.Native.Nat.{_+_}
 use lib.ListN.{drop}
 use Rattle.gf2.specs.Fields.{product}
-use Rattle.bch.specs.Elimination.{against}
-use Rattle.bch.specs.Elimination.{sequence}
+use Rattle.bch.specs.Elimination.{against, sequence}
 use Rattle.bch.proofs.eliminate.against.Given as given
 
 abbrev pub Inv-loop-k : given.InvT-loop-k

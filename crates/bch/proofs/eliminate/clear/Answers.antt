@@ -5,8 +5,7 @@ use native.Mathlib.Omega.{arith}
 use lib.ListN.{getD, take, drop}
 use Rattle.std.proofs.shelf.Lists.{length-set}
 use Rattle.gf2.specs.Fields.{product}
-use Rattle.bch.specs.Elimination.{against, add-scaled, cleared}
-use Rattle.bch.specs.Elimination.{sequence}
+use Rattle.bch.specs.Elimination.{against, add-scaled, cleared, sequence}
 use Rattle.bch.specs.Decoding.{inverse-or-0}
 use Rattle.std.specs.Options.{valueOr}
 use Rattle.std.specs.declared.option.Option.{Option}

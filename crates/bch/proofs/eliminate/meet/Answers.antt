@@ -4,8 +4,7 @@ use Prim.Native.Nat.{ℕ, _-_}
 use native.Mathlib.Omega.{arith}
 use lib.ListN.{length, getD, take}
 use Rattle.gf2.specs.Fields.{product}
-use Rattle.bch.specs.Elimination.{against, met-one}
-use Rattle.bch.specs.Elimination.{sequence}
+use Rattle.bch.specs.Elimination.{against, met-one, sequence}
 use Rattle.bch.specs.Decoding.{inverse-or-0}
 use Rattle.bch.proofs.Rows as rows
 use Rattle.bch.proofs.eliminate.meet.Needs as need

@@ -3,8 +3,7 @@ use mathlib.Core.List.{_++_}
 use Prim.Native.Nat.{_+_, _-_}
 use lib.ListN.{take, drop}
 use Rattle.gf2.specs.Fields.{product}
-use Rattle.bch.specs.Elimination.{met-one}
-use Rattle.bch.specs.Elimination.{sequence}
+use Rattle.bch.specs.Elimination.{met-one, sequence}
 use Rattle.bch.specs.Decoding.{inverse-or-0}
 use Rattle.bch.proofs.eliminate.meet.Given as given
 

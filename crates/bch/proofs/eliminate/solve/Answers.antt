@@ -4,8 +4,7 @@ use Prim.Native.Nat.{ℕ, suc, _+_, _-_, _<_, _≤_}
 use native.Mathlib.Omega.{arith}
 use lib.ListN.{take}
 use Rattle.gf2.specs.Fields.{product}
-use Rattle.bch.specs.Elimination.{met-one, met-all}
-use Rattle.bch.specs.Elimination.{sequence}
+use Rattle.bch.specs.Elimination.{met-one, met-all, sequence}
 use Rattle.bch.specs.Decoding.{inverse-or-0}
 use Rattle.bch.proofs.eliminate.solve.Needs as need
 

@@ -2,8 +2,7 @@ use mathlib.Core.Path.{_≡_}
 use Prim.Native.Nat.{_+_, _-_, _≤_}
 use lib.ListN.{take, length}
 use Rattle.gf2.specs.Fields.{product}
-use Rattle.bch.specs.Elimination.{met-all}
-use Rattle.bch.specs.Elimination.{sequence, unit-rows}
+use Rattle.bch.specs.Elimination.{met-all, sequence, unit-rows}
 use Rattle.bch.specs.Decoding.{inverse-or-0}
 use Rattle.bch.proofs.eliminate.solve.Given as given
 

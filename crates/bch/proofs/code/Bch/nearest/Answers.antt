@@ -12,7 +12,6 @@ use Rattle.gf2.proofs.Places.{bits-length}
 use Rattle.bch.specs.Code.{syndrome}
 use Rattle.bch.specs.Elimination.{met-all, sequence, unit-rows}
 use Rattle.bch.specs.Decoding.{inverse-or-0, syndromes-vanish, root-marks}
-use Rattle.bch.specs.Settings.{field}
 use Rattle.bch.proofs.Correcting.{accepted, too-many-flips, not-a-codeword}
 use Rattle.bch.proofs.Settings.{tested}
 use Rattle.bch.proofs.code.Bch.nearest.Needs as need

@@ -1,12 +1,9 @@
-use mathlib.Core.Path.{_≡_, refl, sym, ap, ap₂, _∙_}
+use mathlib.Core.Path.{_≡_, sym, ap, ap₂, _∙_}
 use mathlib.Core.Bool.{Bool, false, cond}
-use mathlib.Core.List.{List, [], _∷_}
-use Prim.Native.Nat.{ℕ}
 use lib.Bits.{bitXor, xor-zero-r}
 use lib.ListN.{getD, take}
 use Rattle.gf2.specs.Words.{bits}
 use Rattle.gf2.specs.Product.{times-x}
-use Rattle.bch.specs.Checks.{remainder}
 use Rattle.bch.specs.Settings.{generator-top, generator-tail, checks-number}
 use Rattle.bch.proofs.Runs as runs
 use Rattle.bch.proofs.code.Bch.remainder.Needs as need

@@ -5,9 +5,8 @@ use native.Mathlib.Omega.{arith}
 use lib.ListN.{length, getD, take}
 use Rattle.gf2.specs.Fields.{product}
 use Rattle.gf2.specs.Polynomials.{power}
-use Rattle.bch.specs.Elimination.{against}
+use Rattle.bch.specs.Elimination.{against, sequence}
 use Rattle.bch.specs.Decoding.{all-vanish}
-use Rattle.bch.specs.Elimination.{sequence}
 use Rattle.bch.proofs.Rows as rows
 use Rattle.bch.proofs.eliminate.Survivors.vanish_at.Needs as need
 
