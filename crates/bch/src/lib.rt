@@ -1,4 +1,6 @@
 // BCH codes: check bits, and the codeword at most t bits away.
+#![tactic(auto)]
+
 mod code;
 mod eliminate;
 mod encode;

@@ -1,12 +1,14 @@
 // BCH codes: check bits, and the codeword at most t bits away.
+#![tactic(auto)]
+
 mod code;
 mod eliminate;
 mod encode;
-pub mod inner;
 pub mod laws;
 mod nearest;
 mod remainders;
 mod roots;
+pub mod settings;
 mod syndrome;
 #[cfg(test)]
 mod tests;

@@ -1,5 +1,5 @@
 // The code of 28 bits on one codeword: two wrong bits are corrected, and three that no codeword is near to are left as they are.
-use crate::inner::Worked;
+use crate::settings::Worked;
 use inner::code::InnerCode;
 
 #[test]

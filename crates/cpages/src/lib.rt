@@ -1,12 +1,14 @@
 // Pages of the setting long for callers in C. A slice is a pointer and then a length, and the two of a call must not overlap; nothing checks what
 // C passes. The answer is 0, or the number of the refusal.
+#![tactic(auto)]
+
 ghost use Rattle.std.specs.Prelude.{◌≡◌};
 ghost use Rattle.gf2.specs.declared.field.Field.TheVariants.{Ten};
 ghost use Rattle.bch_inner.specs.Codes.{long_checks};
 ghost use Rattle.wordcode.specs.Page.{page_of, page_checked, PageMade};
 ghost use Rattle.cpages.specs.Answers.{answer_number, PageReadAs};
 
-use bch_inner::inner::Long;
+use bch_inner::settings::Long;
 use wordcode::page::{encode_page, read_page};
 
 #[unsafe(no_mangle)]

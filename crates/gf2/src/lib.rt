@@ -1,4 +1,6 @@
 // Bits of bytes and the five binary fields: what the page code rests on.
+#![tactic(auto)]
+
 pub mod bits;
 pub mod field;
 pub mod laws;

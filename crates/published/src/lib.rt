@@ -1,2 +1,4 @@
 // The published words of the page code.
+#![tactic(auto)]
+
 pub mod laws;

@@ -1,4 +1,6 @@
 // The page code: words with check bits that are no linear function of the message.
+#![tactic(auto)]
+
 mod last;
 pub mod laws;
 pub mod message;

@@ -1,4 +1,6 @@
 // Works out the nonlinear check bits of a message, and prints each step.
+#![tactic(auto)]
+
 mod show;
 
 use anyhow::anyhow;

@@ -1,4 +1,6 @@
 // Encodes and reads words and pages, one request a line, and answers each on a line.
+#![tactic(auto)]
+
 mod answer;
 mod explain;
 mod line;

@@ -17,12 +17,12 @@ loop-k-preserved c =
     let k = c.loop-k.k in
     let next = get_or ps (k + 1) [] in
     let a : c.product-a.result ≡ m (against m next s i) (inv (against m first s i)) =
-    c.product-a.ensures.product-of-the-elements ∙ ap₂ m c.against-in-loop-k.ensures.sum-of-products (c.unwrap-or-scale.ensures ∙ ap (λ (o : Option ℕ). unwrap_or o 0) c.inverse.ensures.power-that-inverts ∙ ap inv c.against.ensures.sum-of-products) in (
+    c.product-a.ensures.product_of_the_elements ∙ ap₂ m c.against-in-loop-k.ensures.sum_of_products (c.unwrap_or-scale.ensures ∙ ap (λ (o : Option ℕ). unwrap_or o 0) c.inverse.ensures.power_that_inverts ∙ ap inv c.against.ensures.sum_of_products) in (
       length-set ps k c.combined.result ∙ c.loop-k.invariant.0,
       rows.cleared_turn m inv s i first next c.combined.result ps
           (take c.args.j c.args.polys.now ++ cleared m inv s i first (take (c.args.count - 1 - c.args.j) (drop (c.args.j + 1) c.args.polys.now)))
           c.args.count k (omega arith) (omega (arith, c.loop-k.invariant.0)) refl
-          (c.combined.ensures.scaled-sum ∙ ap (λ (x : ℕ). add_scaled m x first next) a) c.loop-k.invariant.1,
+          (c.combined.ensures.scaled_sum ∙ ap (λ (x : ℕ). add_scaled m x first next) a) c.loop-k.invariant.1,
     )
 
 pub returns : goal.returns

@@ -25,7 +25,7 @@ loop-i-preserved c =
     let i = c.loop-i.i in (
       c.meet-count.array_long,
       omega (arith, c.loop-i.invariant.1, c.meet-count.ensures.no_more),
-      ap (met_all m inv s (t - (i + 1)) (i + 1 + 1)) c.meet-count.ensures.those-that-meet-it
+      ap (met_all m inv s (t - (i + 1)) (i + 1 + 1)) c.meet-count.ensures.those_that_meet_it
           ∙ turn m inv s t i (take c.loop-i.count c.loop-i.polys) c.loop-i-test.true
           ∙ c.loop-i.invariant.2,
     )
@@ -33,7 +33,7 @@ loop-i-preserved c =
 pub returns : goal.returns
 returns c =
     record {
-      meet-all-equations =
+      meet_all_equations =
           end (product c.args.field) (inverse_or_0 c.args.field) (sequence c.args.s.now) c.args.t c.loop-i.i
           (take c.loop-i.count c.loop-i.polys) c.loop-i-test.false
           ∙ c.loop-i.invariant.2;

@@ -6,7 +6,7 @@ use Rattle.gf2.specs.Fields.{alpha, product, power}
 use Rattle.bch.specs.Decoding.{all_vanish, marks, root_at}
 use Rattle.bch.proofs.Flips.{flip_more, skip_more, flip_none, flip_all, count_more, count_same, count_none}
 use Rattle.bch.proofs.roots.flip_roots.Goals as goal
-use Rattle.bch.proofs.roots.flip_roots.Goals.{then-vanish-at, else-vanish-at}
+use Rattle.bch.proofs.roots.flip_roots.Goals.{then-vanish_at, else-vanish_at}
 
 -- the test at the point alpha^i
 tested : (F : Field) (ps : List (List ℕ)) (i y : ℕ) (b : Bool) → y ≡ power F alpha i → b ≡ all_vanish (product F) ps y → root_at F ps i ≡ b
@@ -40,19 +40,19 @@ loop-i-preserved c =
     let i = c.loop-i.i in
     let w = bits c.args.bytes.now in
     let inv = c.loop-i.invariant in
-    let point = next_point F i c.loop-i.point c.times-alpha-point.result inv.0 c.times-alpha-point.ensures.product-with-alpha in
-    elim c.if-vanish-at.branch [
-      | then-vanish-at y ↦
-          let z = tested F ps i c.loop-i.point true inv.0 y.if-vanish-at.ensures.all-are-0-there in (
+    let point = next_point F i c.loop-i.point c.times_alpha-point.result inv.0 c.times_alpha-point.ensures.product_with_alpha in
+    elim c.if-vanish_at.branch [
+      | then-vanish_at y ↦
+          let z = tested F ps i c.loop-i.point true inv.0 y.if-vanish_at.ensures.all_are_0_there in (
             point,
             omega (arith, y.flips-is, inv.1),
             y.flips-is ∙ ap (λ (x : ℕ). x + 1) inv.2 ∙ count_more f i z,
-            ap bits y.bytes-is ∙ y.put.ensures.only-that-bit-is-set-so
-                ∙ ap (λ (b : Bool). set (bits c.loop-i.bytes) (n - 1 - i) (not b)) y.is_set.ensures.the-bit-there
+            ap bits y.bytes-is ∙ y.put.ensures.only_that_bit_is_set_so
+                ∙ ap (λ (b : Bool). set (bits c.loop-i.bytes) (n - 1 - i) (not b)) y.is_set.ensures.the_bit_there
                 ∙ flip_more f w (bits c.loop-i.bytes) n i c.loop-i-test.true c.requires.enough z inv.3,
           )
-      | else-vanish-at y ↦
-          let z = tested F ps i c.loop-i.point false inv.0 y.if-vanish-at.ensures.all-are-0-there in (
+      | else-vanish_at y ↦
+          let z = tested F ps i c.loop-i.point false inv.0 y.if-vanish_at.ensures.all_are_0_there in (
             point,
             omega (arith, y.flips-is, inv.1),
             y.flips-is ∙ inv.2 ∙ count_same f i z,
@@ -69,6 +69,6 @@ returns c =
     let i = c.loop-i.i in
     let e : i ≡ n = omega arith in
     record {
-      counts-the-roots = c.loop-i.invariant.2 ∙ ap (λ (k : ℕ). weight (marks f k)) e;
-      flips-the-roots = c.loop-i.invariant.3 ∙ flip_all f (bits c.args.bytes.now) n i (omega arith) (omega arith);
+      counts_the_roots = c.loop-i.invariant.2 ∙ ap (λ (k : ℕ). weight (marks f k)) e;
+      flips_the_roots = c.loop-i.invariant.3 ∙ flip_all f (bits c.args.bytes.now) n i (omega arith) (omega arith);
     }

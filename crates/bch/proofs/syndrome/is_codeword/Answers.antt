@@ -31,8 +31,8 @@ returns-then-syndrome-ne0 c =
     let w = take c.args.count (bits c.args.bytes.now) in
     let n = c.args.t + c.args.t in
     record {
-      all-syndromes-vanish =
-          fails F w (syndromes_vanish F w 1 n) c.loop-j.j n c.loop-j-test.true (λ e. c.if-syndrome-ne0.true (c.syndrome.ensures.value-at-that-power ∙ e)) c.loop-j.invariant;
+      all_syndromes_vanish =
+          fails F w (syndromes_vanish F w 1 n) c.loop-j.j n c.loop-j-test.true (λ e. c.if-syndrome-ne0.true (c.syndrome.ensures.value_at_that_power ∙ e)) c.loop-j.invariant;
     }
 
 pub loop-j-preserved : goal.loop-j-preserved
@@ -40,11 +40,11 @@ loop-j-preserved c =
     let F = c.args.field in
     let w = take c.args.count (bits c.args.bytes.now) in
     let n = c.args.t + c.args.t in
-    passes F w (syndromes_vanish F w 1 n) c.loop-j.j n c.loop-j-test.true (sym c.syndrome.ensures.value-at-that-power ∙ c.if-syndrome-ne0.false) c.loop-j.invariant
+    passes F w (syndromes_vanish F w 1 n) c.loop-j.j n c.loop-j-test.true (sym c.syndrome.ensures.value_at_that_power ∙ c.if-syndrome-ne0.false) c.loop-j.invariant
 
 pub returns : goal.returns
 returns c =
     let F = c.args.field in
     let w = take c.args.count (bits c.args.bytes.now) in
     let n = c.args.t + c.args.t in
-    record { all-syndromes-vanish = ends F w (syndromes_vanish F w 1 n) c.loop-j.j n c.loop-j-test.false c.loop-j.invariant }
+    record { all_syndromes_vanish = ends F w (syndromes_vanish F w 1 n) c.loop-j.j n c.loop-j-test.false c.loop-j.invariant }

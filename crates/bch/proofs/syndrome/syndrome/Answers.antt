@@ -7,7 +7,7 @@ use Rattle.bch.specs.Code.{word_value}
 use Rattle.bch.proofs.Horner.{horner, horner_0}
 use Rattle.bch.proofs.Runs as runs
 use Rattle.bch.proofs.syndrome.syndrome.Goals as goal
-use Rattle.bch.proofs.syndrome.syndrome.Goals.{then-is-set, else-is-set}
+use Rattle.bch.proofs.syndrome.syndrome.Goals.{then-is_set, else-is_set}
 
 pub loop-skip-preserved : goal.loop-skip-preserved
 loop-skip-preserved c =
@@ -16,13 +16,13 @@ loop-skip-preserved c =
     let w = bits c.args.bytes.now in
     let i = c.loop-skip.skip in
     let s = c.loop-skip.sum in
-    let v : c.if-is-set.sum ≡ bit_xor (m z s) (cond (get_or w i false) 1 0) =
-    elim c.if-is-set.branch [
-      | then-is-set y ↦ y.sum_is ∙ ap₂ (λ (x : ℕ) (b : Bool). bit_xor x (cond b 1 0)) c.product-sum.ensures.product-of-the-elements y.if-is-set.ensures.the-bit-there
-      | else-is-set y ↦ y.sum_is ∙ sym (xor_zero_r c.product-sum.result)
-          ∙ ap₂ (λ (x : ℕ) (b : Bool). bit_xor x (cond b 1 0)) c.product-sum.ensures.product-of-the-elements y.if-is-set.ensures.the-bit-there
+    let v : c.if-is_set.sum ≡ bit_xor (m z s) (cond (get_or w i false) 1 0) =
+    elim c.if-is_set.branch [
+      | then-is_set y ↦ y.sum-is ∙ ap₂ (λ (x : ℕ) (b : Bool). bit_xor x (cond b 1 0)) c.product-sum.ensures.product_of_the_elements y.if-is_set.ensures.the_bit_there
+      | else-is_set y ↦ y.sum-is ∙ sym (xor_zero_r c.product-sum.result)
+          ∙ ap₂ (λ (x : ℕ) (b : Bool). bit_xor x (cond b 1 0)) c.product-sum.ensures.product_of_the_elements y.if-is_set.ensures.the_bit_there
     ] in
-    runs.turn (m z) 1 s c.if-is-set.sum w i c.args.count (horner m z 0 (take c.args.count w)) c.loop-skip-test.true c.requires.enough v c.loop-skip.invariant
+    runs.turn (m z) 1 s c.if-is_set.sum w i c.args.count (horner m z 0 (take c.args.count w)) c.loop-skip-test.true c.requires.enough v c.loop-skip.invariant
 
 pub returns : goal.returns
 returns c =
@@ -31,8 +31,8 @@ returns c =
     let w = bits c.args.bytes.now in
     let k = c.args.count in
     record {
-      value-at-that-power =
+      value_at_that_power =
           runs.end (product F z) 1 c.loop-skip.sum w c.loop-skip.skip k (horner (product F) z 0 (take k w)) c.loop-skip-test.false c.requires.enough c.loop-skip.invariant
           ∙ horner_0 (width F) (product F) (field F) z (take k w)
-          ∙ ap (λ (x : ℕ). word_value (product F) x (take k w)) c.power-point.ensures.product-of-that-many;
+          ∙ ap (λ (x : ℕ). word_value (product F) x (take k w)) c.power-point.ensures.product_of_that_many;
     }

@@ -10,5 +10,5 @@ loop-k-init c = rows.against_none (product c.args.field) c.args.poly.now (sequen
 
 pub loop-k-preserved : goal.loop-k-preserved
 loop-k-preserved c =
-    ap₂ bit_xor c.product-sum.ensures.product-of-the-elements c.loop-k.invariant
+    ap₂ bit_xor c.product-sum.ensures.product_of_the_elements c.loop-k.invariant
     ∙ rows.against_turn (product c.args.field) c.args.poly.now (sequence c.args.s.now) c.args.i c.loop-k.k (omega arith) (omega arith)

@@ -16,7 +16,7 @@ loop-k-preserved c =
     let q = add_scaled m a p c.args.q.now in (
       length-set r k (bit_xor c.product.result (get_or r k 0)) ∙ c.loop-k.invariant.0,
       subst (λ (x : ℕ). take (k + 1) (set r k (bit_xor x (get_or r k 0))) ++ add_scaled m a (drop (k + 1) p) (drop (k + 1) (set r k (bit_xor x (get_or r k 0)))) ≡ q)
-          (sym c.product.ensures.product-of-the-elements) (rows.add_scaled_turn m a p r q k (omega arith) (omega (arith, c.loop-k.invariant.0)) c.loop-k.invariant.1),
+          (sym c.product.ensures.product_of_the_elements) (rows.add_scaled_turn m a p r q k (omega arith) (omega (arith, c.loop-k.invariant.0)) c.loop-k.invariant.1),
     )
 
 pub returns : goal.returns
@@ -24,6 +24,6 @@ returns c =
     let m = product c.args.field in
     let p = c.args.p.now in
     record {
-      scaled-sum =
+      scaled_sum =
           rows.add_scaled_end m c.args.a p c.loop-k.sum (add_scaled m c.args.a p c.args.q.now) c.loop-k.k (omega arith) (omega (arith, c.loop-k.invariant.0)) c.loop-k.invariant.1;
     }

@@ -31,5 +31,5 @@ loop-k-preserved c =
       length-set xs k v ∙ c.loop-k.invariant.0,
       below_more (λ j. sequence (set xs k v) j ≡ power m y j) k
           (λ j h. get_or-set_other xs k j v 0 (let ne : j ≢ k = omega arith in ne) ∙ c.loop-k.invariant.1 j h)
-          (get_or-set_same xs k v 0 (omega (arith, c.loop-k.invariant.0)) ∙ c.product.ensures.product-of-the-elements ∙ ap (m y) (c.loop-k.invariant.1 (k - 1) (omega arith)) ∙ next m y k c.loop-k.auto.k),
+          (get_or-set_same xs k v 0 (omega (arith, c.loop-k.invariant.0)) ∙ c.product.ensures.product_of_the_elements ∙ ap (m y) (c.loop-k.invariant.1 (k - 1) (omega arith)) ∙ next m y k c.loop-k.auto.k),
     )

@@ -9,4 +9,4 @@ use Rattle.bch_inner.proofs.remainders.long_table.Goals as goal
 
 pub returns : goal.returns
 unfolding entries running times_x bits_of
-returns c = record { each-at-its-byte = rule (generator_top Long) (generator_tail Long) _ refl tt }
+returns c = record { each_at_its_byte = rule (generator_top Long) (generator_tail Long) _ refl tt }

@@ -8,8 +8,8 @@ loop-k-init c = none_changed (λ k a. product c.args.field (power c.args.field a
 
 pub loop-k-preserved : goal.loop-k-preserved
 loop-k-preserved c =
-    one_changed (λ k a. product c.args.field (power c.args.field alpha k) a) c.args.terms.now c.loop-k.terms c.loop-k.k c.times-power.result c.loop-k-test.true
-    c.times-power.ensures.product-with-that-power c.loop-k.invariant
+    one_changed (λ k a. product c.args.field (power c.args.field alpha k) a) c.args.terms.now c.loop-k.terms c.loop-k.k c.times_power.result c.loop-k-test.true
+    c.times_power.ensures.product_with_that_power c.loop-k.invariant
 
 pub returns : goal.returns
-returns c = record { each-by-its-power-of-alpha = λ k h. c.loop-k.invariant.1 k (omega arith) }
+returns c = record { each_by_its_power_of_alpha = λ k h. c.loop-k.invariant.1 k (omega arith) }

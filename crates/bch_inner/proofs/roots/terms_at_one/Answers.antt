@@ -10,12 +10,12 @@ loop-k-init c = none_changed (λ k a. sum c.args.field a 0) c.args.poly.now (ome
 pub loop-k-preserved : goal.loop-k-preserved
 loop-k-preserved c =
     one_changed (λ k a. sum c.args.field a 0) c.args.poly.now c.loop-k.terms c.loop-k.k c.sum.result c.loop-k-test.true
-    c.sum.ensures.sum-of-the-elements c.loop-k.invariant
+    c.sum.ensures.sum_of_the_elements c.loop-k.invariant
 
 pub returns : goal.returns
 returns c =
     record {
-      its-terms = record {
+      its_terms = record {
         six = omega arith;
         each = λ k h. c.loop-k.invariant.1 k (omega arith) ∙ at_one c.args.field (sequence c.args.poly.now k) k;
       };

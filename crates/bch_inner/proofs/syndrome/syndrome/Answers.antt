@@ -36,13 +36,13 @@ loop-i-preserved c =
     let w = bits_of n x in
     let i = c.loop-i.i in
     let s = c.loop-i.sum in
-    let moved = c.times-power-sum.ensures.product-with-that-power in
+    let moved = c.times_power-sum.ensures.product_with_that_power in
     let v : c.if-number-count-eq1.sum ≡ bit_xor (m z s) (cond (get_or w i false) 1 0) =
     elim c.if-number-count-eq1.branch [
       | then-number-count-eq1 y ↦
-          y.sum_is ∙ ap₂ (λ (a : ℕ) (b : Bool). bit_xor a (cond b 1 0)) moved (set_bit x n i c.loop-i-test.true y.if-number-count-eq1.true)
+          y.sum-is ∙ ap₂ (λ (a : ℕ) (b : Bool). bit_xor a (cond b 1 0)) moved (set_bit x n i c.loop-i-test.true y.if-number-count-eq1.true)
       | else-number-count-eq1 y ↦
-          y.sum_is ∙ sym (xor_zero_r c.times-power-sum.result)
+          y.sum-is ∙ sym (xor_zero_r c.times_power-sum.result)
           ∙ ap₂ (λ (a : ℕ) (b : Bool). bit_xor a (cond b 1 0)) moved (clear_bit x n i c.loop-i-test.true y.if-number-count-eq1.false)
     ] in
     runs.turn (m z) 1 0 s c.if-number-count-eq1.sum w i (omega (arith, bits_of_length n x)) v c.loop-i.invariant
@@ -53,7 +53,7 @@ returns c =
     let z = power F alpha c.args.j in
     let w = bits_of c.args.count c.args.number in
     record {
-      value-at-that-power =
+      value_at_that_power =
           c.loop-i.invariant
           ∙ ap (horner (product F) z 0) (take_all c.loop-i.i w (omega (arith, bits_of_length c.args.count c.args.number)))
           ∙ horner_0 (width F) (product F) (field F) z w;

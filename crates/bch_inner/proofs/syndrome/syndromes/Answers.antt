@@ -13,5 +13,5 @@ loop-j-preserved c =
       length-set xs j v ∙ c.loop-j.invariant.0,
       below_more (λ i. 1 ≤ i → get_or (set xs j v) i 0 ≡ syndrome c.args.field w i) j
           (λ i h l. get_or-set_other xs j i v 0 (let ne : i ≢ j = omega arith in ne) ∙ c.loop-j.invariant.1 i h l)
-          (λ l. get_or-set_same xs j v 0 (omega (arith, c.loop-j.invariant.0)) ∙ c.syndrome.ensures.value-at-that-power),
+          (λ l. get_or-set_same xs j v 0 (omega (arith, c.loop-j.invariant.0)) ∙ c.syndrome.ensures.value_at_that_power),
     )

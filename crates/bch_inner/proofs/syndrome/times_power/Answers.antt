@@ -46,22 +46,22 @@ unfolding shifted
 no_step n p a = refl
 
 pub loop-i-init : goal.loop-i-init
-loop-i-init c = no_step (c.width-top.result - 1) c.times-alpha-tail.result c.sum-moved.result
+loop-i-init c = no_step (c.width-top.result - 1) c.times_alpha-tail.result c.sum-moved.result
 
 pub loop-i-preserved : goal.loop-i-preserved
 loop-i-preserved c =
-    c.times-x-moved.ensures.moves-up-and-reduces
-    ∙ one_step (c.width-top.result - 1) c.times-alpha-tail.result c.loop-i.-i c.sum-moved.result c.loop-i.moved c.loop-i.invariant
+    c.times_x-moved.ensures.moves_up_and_reduces
+    ∙ one_step (c.width-top.result - 1) c.times_alpha-tail.result c.loop-i._i c.sum-moved.result c.loop-i.moved c.loop-i.invariant
 
 pub returns : goal.returns
 returns c =
     let F = c.args.field in
     let k = c.width-top.result - 1 in
-    let is : k ≡ top F = omega (arith, c.width-top.ensures.bits-of-an-element) in
+    let is : k ≡ top F = omega (arith, c.width-top.ensures.bits_of_an_element) in
     record {
-      product-with-that-power =
+      product_with_that_power =
           c.loop-i.invariant
-          ∙ ap₂ (λ (n p : ℕ). shifted n p c.loop-i.-i c.sum-moved.result) is (wraps F k c.times-alpha-tail.result is c.times-alpha-tail.ensures.product-with-alpha)
-          ∙ ap₂ (λ (i a : ℕ). shifted (top F) (modulus_tail F) i a) (let e : c.loop-i.-i ≡ c.args.k = omega arith in e) c.sum-moved.ensures.sum-of-the-elements
+          ∙ ap₂ (λ (n p : ℕ). shifted n p c.loop-i._i c.sum-moved.result) is (wraps F k c.times_alpha-tail.result is c.times_alpha-tail.ensures.product_with_alpha)
+          ∙ ap₂ (λ (i a : ℕ). shifted (top F) (modulus_tail F) i a) (let e : c.loop-i._i ≡ c.args.k = omega arith in e) c.sum-moved.ensures.sum_of_the_elements
           ∙ steps F c.args.a c.args.k;
     }

@@ -3,4 +3,4 @@ use Rattle.gf2.proofs.Ring.{shifted}
 use Rattle.bch_inner.proofs.syndrome.times_power.Given as goal
 
 abbrev pub invariant-loop-i : goal.invariant-loop-i
-invariant-loop-i l = l.moved ≡ shifted l.top l.tail l.-i l.initial.moved
+invariant-loop-i l = l.moved ≡ shifted l.top l.tail l._i l.initial.moved

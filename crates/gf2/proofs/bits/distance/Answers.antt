@@ -11,12 +11,12 @@ pub loop-i-init : goal.loop-i-init
 unfolding bits
 loop-i-init c = (refl, omega arith)
 
-pub overflow-add-count : goal.overflow-add-count
-overflow-add-count c =
+pub overflow_add-count : goal.overflow_add-count
+overflow_add-count c =
     let x = get_or c.args.a.now c.loop-i.i 0 in
     let y = get_or c.args.b.now c.loop-i.i 0 in
-    let lx : x < 2 ^ 8 = omega (arith, c.type-inv.a c.loop-i.i) in
-    let ly : y < 2 ^ 8 = omega (arith, c.type-inv.b c.loop-i.i) in
+    let lx : x < 2 ^ 8 = omega (arith, c.type_inv.a c.loop-i.i) in
+    let ly : y < 2 ^ 8 = omega (arith, c.type_inv.b c.loop-i.i) in
     omega (arith, c.loop-i.invariant.1, c.from-count.ensures, ones-le 8 (bit_xor x y) (xor_lt 8 x y lx ly))
 
 pub loop-i-preserved : goal.loop-i-preserved
@@ -24,8 +24,8 @@ loop-i-preserved c =
     let cs = c.args.a.now in
     let bs = c.args.b.now in
     let i = c.loop-i.i in
-    let la : get_or cs i 0 < 2 ^ 8 = omega (arith, c.type-inv.a i) in
-    let lb : get_or bs i 0 < 2 ^ 8 = omega (arith, c.type-inv.b i) in (
+    let la : get_or cs i 0 < 2 ^ 8 = omega (arith, c.type_inv.a i) in
+    let lb : get_or bs i 0 < 2 ^ 8 = omega (arith, c.type_inv.b i) in (
       ap₂ ◌+◌ c.loop-i.invariant.0 c.from-count.ensures ∙ sym (distance_more cs bs i c.loop-i-test.true c.if-a-b.false la lb),
       omega (arith, c.loop-i.invariant.1, c.from-count.ensures, ones-le 8 (bit_xor (get_or cs i 0) (get_or bs i 0)) (xor_lt 8 (get_or cs i 0) (get_or bs i 0) la lb)),
     )
@@ -36,7 +36,7 @@ returns c =
     let bs = c.args.b.now in
     let i = c.loop-i.i in
     record {
-      number-of-differing-bits =
+      number_of_differing_bits =
           ap Some
           (c.loop-i.invariant.0
           ∙ ap₂ (λ (x y : List ℕ). distance (bits x) (bits y)) (take_all i cs c.loop-i-test.false) (take_all i bs (omega (arith, c.if-a-b.false, c.loop-i-test.false))))

@@ -16,13 +16,13 @@ pub returns-then-count-eq0 : goal.returns-then-count-eq0
 returns-then-count-eq0 c =
     let bs = c.args.bytes.now in
     let k = c.args.count in
-    record { at-least-that-many-bits = same (k / 8) (length bs) k (length (bits bs)) (λ h. omega (arith, bits_length bs, c.if-count-eq0.true)) (λ h. omega (arith, bits_length bs)) }
+    record { at_least_that_many_bits = same (k / 8) (length bs) k (length (bits bs)) (λ h. omega (arith, bits_length bs, c.if-count-eq0.true)) (λ h. omega (arith, bits_length bs)) }
 
 pub returns-else-count-eq0 : goal.returns-else-count-eq0
 returns-else-count-eq0 c =
     let bs = c.args.bytes.now in
     let k = c.args.count in
     record {
-      at-least-that-many-bits =
+      at_least_that_many_bits =
           same (suc (k / 8)) (length bs) k (length (bits bs)) (λ h. omega (arith, bits_length bs)) (λ h. omega (arith, bits_length bs, c.if-count-eq0.false));
     }

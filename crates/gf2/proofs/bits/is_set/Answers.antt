@@ -7,11 +7,11 @@ use Rattle.gf2.proofs.bits.is_set.Goals as goal
 
 pub returns-then-skip-bytes : goal.returns-then-skip-bytes
 returns-then-skip-bytes c = record {
-  the-bit-there = ap (λ (x : ℕ). eqb x 1) c.digit.ensures.value-of-the-bit ∙ sym (byte_bit c.args.bytes.now c.args.skip c.if-skip-bytes.true);
+  the_bit_there = ap (λ (x : ℕ). eqb x 1) c.digit.ensures.value_of_the_bit ∙ sym (byte_bit c.args.bytes.now c.args.skip c.if-skip-bytes.true);
 }
 
 pub returns-else-skip-bytes : goal.returns-else-skip-bytes
 returns-else-skip-bytes c =
     let bs = c.args.bytes.now in
     let past = c.if-skip-bytes.false in
-    record { the-bit-there = le-ltb (c.args.skip / 8) (length bs) past ∙ sym (get_or_past (bits bs) c.args.skip false (past_bytes bs c.args.skip past)) }
+    record { the_bit_there = le-ltb (c.args.skip / 8) (length bs) past ∙ sym (get_or_past (bits bs) c.args.skip false (past_bytes bs c.args.skip past)) }

@@ -27,7 +27,7 @@ there w s k low high fit =
 pub returns-then-at-end : goal.returns-then-at-end
 returns-then-at-end c =
     let bs = c.args.bytes.now in
-    record { number-of-those-bits = ended (bits bs) c.args.skip c.args.count (omega (arith, bits_length bs, c.if-at-end.true)) }
+    record { number_of_those_bits = ended (bits bs) c.args.skip c.args.count (omega (arith, bits_length bs, c.if-at-end.true)) }
 
 pub returns : goal.returns
 returns c =
@@ -39,11 +39,11 @@ returns c =
     let few : k ≤ 16 = omega arith in
     let fit : s + k ≤ length (bits bs) = omega (arith, bits_length bs, c.if-at-end.false) in
     let shift = 2 ^ (24 - (s % 8 + k)) in
-    let value : ((c.byte-or-0.result * 256 + c.byte-or-0-2.result) * 256 + c.byte-or-0-3.result) / shift % 2 ^ k ≡ number (take k (drop s (bits bs))) =
-    ap₂ (λ (x y : ℕ). ((x * 256 + y) * 256 + c.byte-or-0-3.result) / shift % 2 ^ k) c.byte-or-0.ensures.the-byte-or-0 c.byte-or-0-2.ensures.the-byte-or-0
-    ∙ ap (λ (z : ℕ). ((get_or bs a 0 * 256 + get_or bs (a + 1) 0) * 256 + z) / shift % 2 ^ k) c.byte-or-0-3.ensures.the-byte-or-0
-    ∙ sym (run_number bs s k (λ i. omega (arith, c.type-inv.bytes i)) some (omega arith) fit) in
+    let value : ((c.byte_or_0.result * 256 + c.byte_or_0-2.result) * 256 + c.byte_or_0-3.result) / shift % 2 ^ k ≡ number (take k (drop s (bits bs))) =
+    ap₂ (λ (x y : ℕ). ((x * 256 + y) * 256 + c.byte_or_0-3.result) / shift % 2 ^ k) c.byte_or_0.ensures.the_byte_or_0 c.byte_or_0-2.ensures.the_byte_or_0
+    ∙ ap (λ (z : ℕ). ((get_or bs a 0 * 256 + get_or bs (a + 1) 0) * 256 + z) / shift % 2 ^ k) c.byte_or_0-3.ensures.the_byte_or_0
+    ∙ sym (run_number bs s k (λ i. omega (arith, c.type_inv.bytes i)) some (omega arith) fit) in
     record {
-      number-of-those-bits =
-          ap Some (low_bits 32 k (((c.byte-or-0.result * 256 + c.byte-or-0-2.result) * 256 + c.byte-or-0-3.result) / shift) (omega arith) ∙ value) ∙ there (bits bs) s k some few fit;
+      number_of_those_bits =
+          ap Some (low_bits 32 k (((c.byte_or_0.result * 256 + c.byte_or_0-2.result) * 256 + c.byte_or_0-3.result) / shift) (omega arith) ∙ value) ∙ there (bits bs) s k some few fit;
     }

@@ -24,25 +24,25 @@ pub returns-then-skip-bytes : goal.returns-then-skip-bytes
 returns-then-skip-bytes c =
     let bs = c.args.bytes.now in
     let s = c.args.skip in
-    record { only-that-bit-is-set-so = sym (set_past (bits bs) s c.args.wanted (past_bytes bs s c.if-skip-bytes.true)) }
+    record { only_that_bit_is_set_so = sym (set_past (bits bs) s c.args.wanted (past_bytes bs s c.if-skip-bytes.true)) }
 
-pub returns-then-is-set-wanted : goal.returns-then-is-set-wanted
-returns-then-is-set-wanted c =
+pub returns-then-is_set-wanted : goal.returns-then-is_set-wanted
+returns-then-is_set-wanted c =
     let bs = c.args.bytes.now in
     let s = c.args.skip in
     let mask : (1 * 2 ^ (7 - s % 8)) % 256 ≡ 2 ^ (7 - s % 8) = one_shl (7 - s % 8) 8 (omega arith) in
     let other : get_or (bits bs) s false ≢ c.args.wanted =
-    λ e. differs c.is-set.result c.args.wanted c.if-is-set-wanted.true (c.is-set.ensures.the-bit-there ∙ e) in
+    λ e. differs c.is_set.result c.args.wanted c.if-is_set-wanted.true (c.is_set.ensures.the_bit_there ∙ e) in
     record {
-      only-that-bit-is-set-so =
+      only_that_bit_is_set_so =
           ap (λ (m : ℕ). bits (set bs (s / 8) (bit_xor (get_or bs (s / 8) 0) m))) mask ∙ byte_put bs s c.args.wanted c.if-skip-bytes.false other;
     }
 
-pub returns-else-is-set-wanted : goal.returns-else-is-set-wanted
-returns-else-is-set-wanted c =
+pub returns-else-is_set-wanted : goal.returns-else-is_set-wanted
+returns-else-is_set-wanted c =
     let w = bits c.args.bytes.now in
     let s = c.args.skip in
     record {
-      only-that-bit-is-set-so =
-          sym (ap (set w s) (sym (agrees c.is-set.result c.args.wanted c.if-is-set-wanted.false) ∙ c.is-set.ensures.the-bit-there) ∙ set-get_or w s false);
+      only_that_bit_is_set_so =
+          sym (ap (set w s) (sym (agrees c.is_set.result c.args.wanted c.if-is_set-wanted.false) ∙ c.is_set.ensures.the_bit_there) ∙ set-get_or w s false);
     }

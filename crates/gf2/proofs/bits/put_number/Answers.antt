@@ -13,12 +13,12 @@ returns-then-skip-count c =
     let short : length (bits bs) < s + k = omega (arith, bits_length bs, c.if-skip-count.true) in
     let none = no_room (bits bs) s k c.if-count-gt128.false short in
     record {
-      accepts-where-there-is-room = sym none;
-      only-those-bits-are-set-so = sym (ap (λ (b : Bool). cond b (with_run s (bits_of k c.args.number) (bits bs)) (bits bs)) none);
+      accepts_where_there_is_room = sym none;
+      only_those_bits_are_set_so = sym (ap (λ (b : Bool). cond b (with_run s (bits_of k c.args.number) (bits bs)) (bits bs)) none);
     }
 
-pub write-number-requires : goal.write-number-requires
-write-number-requires c =
+pub write_number-requires : goal.write_number-requires
+write_number-requires c =
     let bs = c.args.bytes.now in
     let a = c.args.skip / 8 in
     record {
@@ -39,8 +39,8 @@ returns c =
     let few : k ≤ 128 = c.if-count-gt128.false in
     let there : s + k ≤ length (bits bs) = omega (arith, bits_length bs, c.if-skip-count.false) in
     record {
-      accepts-where-there-is-room = sym (room_there (bits bs) s k few there);
-      only-those-bits-are-set-so =
-          run_in_bytes bs c.write-number.new.bytes s (bits_of k c.args.number) (omega (arith, c.if-skip-count.false)) c.write-number.ensures.written
+      accepts_where_there_is_room = sym (room_there (bits bs) s k few there);
+      only_those_bits_are_set_so =
+          run_in_bytes bs c.write_number.new.bytes s (bits_of k c.args.number) (omega (arith, c.if-skip-count.false)) c.write_number.ensures.written
           ∙ sym (number_there (bits bs) s k c.args.number few there);
     }

@@ -9,17 +9,17 @@ pub loop-byte-init : goal.loop-byte-init
 unfolding bits
 loop-byte-init c = (refl, omega arith)
 
-pub overflow-add-count : goal.overflow-add-count
-overflow-add-count c =
+pub overflow_add-count : goal.overflow_add-count
+overflow_add-count c =
     let i = c.loop-byte.byte-index in
-    let low : get_or c.args.bytes.now i 0 < 2 ^ 8 = omega (arith, c.type-inv.bytes i) in
+    let low : get_or c.args.bytes.now i 0 < 2 ^ 8 = omega (arith, c.type_inv.bytes i) in
     omega (arith, c.loop-byte.invariant.1, c.from-count.ensures, ones-le 8 (get_or c.args.bytes.now i 0) low)
 
 pub loop-byte-preserved : goal.loop-byte-preserved
 loop-byte-preserved c =
     let bs = c.args.bytes.now in
     let i = c.loop-byte.byte-index in
-    let low : get_or bs i 0 < 2 ^ 8 = omega (arith, c.type-inv.bytes i) in (
+    let low : get_or bs i 0 < 2 ^ 8 = omega (arith, c.type_inv.bytes i) in (
       ap₂ ◌+◌ c.loop-byte.invariant.0 c.from-count.ensures ∙ sym (weight_more bs i c.loop-byte-test.true low),
       omega (arith, c.loop-byte.invariant.1, c.from-count.ensures, ones-le 8 (get_or bs i 0) low),
     )
@@ -27,4 +27,4 @@ loop-byte-preserved c =
 pub returns : goal.returns
 returns c =
     let bs = c.args.bytes.now in
-    record { number-of-set-bits = c.loop-byte.invariant.0 ∙ ap (λ (b : _). weight (bits b)) (take_all c.loop-byte.byte-index bs c.loop-byte-test.false) }
+    record { number_of_set_bits = c.loop-byte.invariant.0 ∙ ap (λ (b : _). weight (bits b)) (take_all c.loop-byte.byte-index bs c.loop-byte-test.false) }

@@ -16,7 +16,7 @@ loop-done-preserved c =
     let n = c.args.number in
     let B = bits c.args.bytes.now in
     let lt : j < k = c.loop-done-test.true in
-    c.put.ensures.only-that-bit-is-set-so
+    c.put.ensures.only_that_bit_is_set_so
     ∙ ap₂ (λ (w : List Bool) (v : Bool). set w (c.args.skip + j) v) c.loop-done.invariant
     (ap (λ (x : ℕ). eqb x 1) (and_mask (n / 2 ^ (k - 1 - j)) 1) ∙ sym (bits_of_at k j n lt))
     ∙ run_more c.args.skip j (bits_of k n) B (omega (arith, bits_of_length k n)) (omega (arith, c.requires.room))

@@ -10,8 +10,8 @@ pub returns : goal.returns
 returns c =
     let i = c.args.i in
     record {
-      power-of-alpha =
-          entry Ten c.table.result.now c.table.ensures.each-is-alpha-times-the-one-before (i % 1023)
-          (subst (λ (n : ℕ). i % 1023 < n) (sym c.table.ensures.one-for-each-element-but-0) (mod-lt i (lit< tt)))
+      power_of_alpha =
+          entry Ten c.table.result.now c.table.ensures.each_is_alpha_times_the_one_before (i % 1023)
+          (subst (λ (n : ℕ). i % 1023 < n) (sym c.table.ensures.one_for_each_element_but_0) (mod-lt i (lit< tt)))
           ∙ power_round (width Ten) (product Ten) (ring Ten) (field Ten).nontrivial alpha 1023 (alpha_generates Ten).around i;
     }

@@ -6,4 +6,4 @@ use Rattle.gf2.proofs.powers.table.Goals as goal
 
 pub returns : goal.returns
 unfolding steps times_x
-returns c = record { each-is-alpha-times-the-one-before = rule Ten _ (lit< tt) tt; one-for-each-element-but-0 = refl }
+returns c = record { each_is_alpha_times_the_one_before = rule Ten _ (lit< tt) tt; one_for_each_element_but_0 = refl }

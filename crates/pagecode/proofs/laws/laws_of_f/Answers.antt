@@ -2,4 +2,4 @@ use Rattle.pagecode.proofs.Pairs.{sum_over_pairs}
 use Rattle.pagecode.proofs.laws.laws_of_f.Goals as goal
 
 pub returns : goal.returns
-returns c = record { f-is-the-sum-over-the-pairs-of-groups = sum_over_pairs }
+returns c = record { f_is_the_sum_over_the_pairs_of_groups = sum_over_pairs }

@@ -9,10 +9,10 @@ loop-at-preserved c =
     let j = c.loop-at.at in
     let W = bits c.args.message.now in
     let O = bits c.args.out.now in
-    c.put.ensures.only-that-bit-is-set-so
+    c.put.ensures.only_that_bit_is_set_so
     ∙ ap₂ (λ (w : List Bool) (v : Bool). set w j v) c.loop-at.invariant
-    (c.is-set.ensures.the-bit-there ∙ ap (λ (i : ℕ). get_or W i false) (let e : j + 1 ≡ 1 + j = omega arith in e) ∙ sym (get_or-drop 1 W j false))
-    ∙ pasted_more j (drop 1 W) O (omega (arith, length-drop 1 W, c.requires.message-has-them, c.loop-at-test.true)) (omega (arith, c.requires.out-has-room, c.loop-at-test.true))
+    (c.is_set.ensures.the_bit_there ∙ ap (λ (i : ℕ). get_or W i false) (let e : j + 1 ≡ 1 + j = omega arith in e) ∙ sym (get_or-drop 1 W j false))
+    ∙ pasted_more j (drop 1 W) O (omega (arith, length-drop 1 W, c.requires.message_has_them, c.loop-at-test.true)) (omega (arith, c.requires.out_has_room, c.loop-at-test.true))
 
 pub returns : goal.returns
 returns c =

@@ -10,33 +10,33 @@ pub loop-pair-init : goal.loop-pair-init
 unfolding sum_of_products groups
 loop-pair-init c = (refl, omega arith)
 
-pub overflow-mul-pair : goal.overflow-mul-pair
-overflow-mul-pair c = omega (arith, pair_room c.args.count c.args.width c.loop-pair.pair c.loop-pair-test.true)
+pub overflow_mul-pair : goal.overflow_mul-pair
+overflow_mul-pair c = omega (arith, pair_room c.args.count c.args.width c.loop-pair.pair c.loop-pair-test.true)
 
 pub loop-pair-preserved : goal.loop-pair-preserved
 loop-pair-preserved c =
     let F = c.in-Some.field in
     let w = bits c.args.bytes.now in
     let p = c.loop-pair.pair in
-    let m : width F ≡ c.args.width = field_of_width c.args.width F (sym c.in-Some.ensures.field-of-that-width) in
-    let t = turn F w p c.in-Some-pair-product.product
-    (c.in-Some-pair-product.ensures.product-of-the-next-two ∙ ap (λ (r : ℕ). product_behind F w (p * (2 * r))) (sym m)) in
-    (c.sum-sum.ensures.sum-of-the-elements ∙ ap (λ (s : ℕ). sum F s c.in-Some-pair-product.product) c.loop-pair.invariant.0 ∙ t.0, t.1)
+    let m : width F ≡ c.args.width = field_of_width c.args.width F (sym c.in-Some.ensures.field_of_that_width) in
+    let t = turn F w p c.in-Some-pair_product.product
+    (c.in-Some-pair_product.ensures.product_of_the_next_two ∙ ap (λ (r : ℕ). product_behind F w (p * (2 * r))) (sym m)) in
+    (c.sum-sum.ensures.sum_of_the_elements ∙ ap (λ (s : ℕ). sum F s c.in-Some-pair_product.product) c.loop-pair.invariant.0 ∙ t.0, t.1)
 
 pub returns : goal.returns
 returns c =
     let F = c.in-Some.field in
     let w = bits c.args.bytes.now in
     let k = c.args.count in
-    let is = sym c.in-Some.ensures.field-of-that-width in
+    let is = sym c.in-Some.ensures.field_of_that_width in
     let m : width F ≡ c.args.width = field_of_width c.args.width F is in
-    let even : k % (2 * width F) ≡ 0 = ap (λ (r : ℕ). k % (2 * r)) m ∙ c.if-count-two-groups-ne0.false in
+    let even : k % (2 * width F) ≡ 0 = ap (λ (r : ℕ). k % (2 * r)) m ∙ c.if-count-two_groups-ne0.false in
     let all : c.loop-pair.pair ≡ k / (2 * width F) =
     (let e : c.loop-pair.pair ≡ k / (2 * c.args.width) = omega arith in e) ∙ ap (λ (r : ℕ). k / (2 * r)) (sym m) in
     let enough : k ≤ length w =
     omega (arith, pairs_are k (width F) even, ap (λ (p : ℕ). double p * width F) all, c.loop-pair.invariant.1) in
     record {
-      f-of-the-first-bits-or-what-does-not-fit =
+      f_of_the_first_bits_or_what_does_not_fit =
           ap Ok (c.loop-pair.invariant.0 ∙ ap (λ (p : ℕ). sum_of_products (product F) (groups (width F) (double p) w)) all ∙ whole F w k even enough)
           ∙ answers_f w k c.args.width F is even enough;
     }

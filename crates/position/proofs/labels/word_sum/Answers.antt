@@ -5,7 +5,7 @@ use Rattle.position.proofs.labels.word_sum.Goals as goal
 pub returns : goal.returns
 returns c =
     record {
-      sum-over-the-word =
-          word_sum (bits c.args.word.now) c.data-sum.result c.in-ok-checks.checks c.data-sum.ensures.sum-over-the-data-bits
-          c.in-ok-checks.ensures.number-of-those-bits;
+      sum_over_the_word =
+          word_sum (bits c.args.word.now) c.data_sum.result c.in_ok-checks.checks c.data_sum.ensures.sum_over_the_data_bits
+          c.in_ok-checks.ensures.number_of_those_bits;
     }

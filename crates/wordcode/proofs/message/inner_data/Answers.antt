@@ -21,13 +21,13 @@ returns-then-count-message c =
     let o = bits c.args.out.now in
     let k = c.args.count in
     let e : data_fits w k o ≡ false = too_short w k o (past_bytes c.args.message.now k c.if-count-message.true) in
-    record { accepts-lengths-that-fit = sym e; writes-v-k-over-the-first-bits = left w k o e }
+    record { accepts_lengths_that_fit = sym e; writes_v_k_over_the_first_bits = left w k o e }
 
-pub copy-behind-first-requires : goal.copy-behind-first-requires
-copy-behind-first-requires c =
+pub copy_behind_first-requires : goal.copy_behind_first-requires
+copy_behind_first-requires c =
     let k = c.args.count in
     let enough = inside_bytes c.args.message.now k c.if-count-message.false in
-    record { message-has-them = omega arith; out-has-room = leb-true k (length (bits c.args.out.now)) (sym c.if-not-holds.ensures.at-least-that-many-bits) }
+    record { message_has_them = omega arith; out_has_room = leb-true k (length (bits c.args.out.now)) (sym c.if-not-holds.ensures.at_least_that_many_bits) }
 
 pub returns-then-count-gt0 : goal.returns-then-count-gt0
 returns-then-count-gt0 c =
@@ -35,19 +35,19 @@ returns-then-count-gt0 c =
     let o = bits c.args.out.now in
     let k = c.args.count in
     let enough : k < length w = inside_bytes c.args.message.now k c.if-count-message.false in
-    let room : k ≤ length o = leb-true k (length o) (sym c.if-not-holds.ensures.at-least-that-many-bits) in
+    let room : k ≤ length o = leb-true k (length o) (sym c.if-not-holds.ensures.at_least_that_many_bits) in
     let e : data_fits w k o ≡ true = fits w k o (omega arith) room in
     let u = get_or w 0 false in
     let a = take k (drop 1 w) in
     let some : 0 < length a = omega (arith, length-take-le k (drop 1 w) (omega (arith, length-drop 1 w)), c.if-count-gt0.true) in
-    let copied = c.copy-behind-first.ensures.copied in
+    let copied = c.copy_behind_first.ensures.copied in
     record {
-      accepts-lengths-that-fit = sym e;
-      writes-v-k-over-the-first-bits =
+      accepts_lengths_that_fit = sym e;
+      writes_v_k_over_the_first_bits =
           written w k o (bits c.put.new.bytes) e
-          (c.put.ensures.only-that-bit-is-set-so
+          (c.put.ensures.only_that_bit_is_set_so
           ∙ ap₂ (λ (v : List Bool) (b : Bool). set v 0 b) copied
-          (ap₂ (λ (x y : Bool). not (beq x y)) (c.is-set.ensures.the-bit-there ∙ ap (λ (v : List Bool). get_or v 0 false) copied) c.is-set-then-count-gt0.ensures.the-bit-there)
+          (ap₂ (λ (x y : Bool). not (beq x y)) (c.is_set.ensures.the_bit_there ∙ ap (λ (v : List Bool). get_or v 0 false) copied) c.is_set-then-count-gt0.ensures.the_bit_there)
           ∙ lead_set u a (drop k o) some
           ∙ ap (λ (v : List Bool). v ++ drop k o) (sym (inner_data_is k w (omega arith))));
     }
@@ -59,12 +59,12 @@ returns-else-count-gt0 c =
     let k = c.args.count in
     let none : k ≡ 0 = omega arith in
     let enough : k < length w = inside_bytes c.args.message.now k c.if-count-message.false in
-    let room : k ≤ length o = leb-true k (length o) (sym c.if-not-holds.ensures.at-least-that-many-bits) in
+    let room : k ≤ length o = leb-true k (length o) (sym c.if-not-holds.ensures.at_least_that_many_bits) in
     let e : data_fits w k o ≡ true = fits w k o (omega arith) room in
     record {
-      accepts-lengths-that-fit = sym e;
-      writes-v-k-over-the-first-bits =
-          written w k o (bits c.copy-behind-first.new.out) e
-          (c.copy-behind-first.ensures.copied
+      accepts_lengths_that_fit = sym e;
+      writes_v_k_over_the_first_bits =
+          written w k o (bits c.copy_behind_first.new.out) e
+          (c.copy_behind_first.ensures.copied
           ∙ ap (λ (v : List Bool). v ++ drop k o) (ap (λ (i : ℕ). take i (drop 1 w)) none ∙ sym (inner_data_is k w (omega arith) ∙ ap (λ (i : ℕ). lead (get_or w 0 false) (take i (drop 1 w))) none)));
     }

@@ -41,9 +41,9 @@ returns c =
       | else-u w ↦ w.each-is ∙ ap (λ (b : Bool). cond b 65535 0) (sym w.if-u.false)
     ] in
     let is : c.sum.result ≡ bit_xor c.args.f (cond c.args.u 65535 0) % 2 ^ width F =
-    c.sum.ensures.sum-of-the-elements ∙ ap (λ (x : ℕ). bit_xor c.args.f x % 2 ^ width F) mask in
+    c.sum.ensures.sum_of_the_elements ∙ ap (λ (x : ℕ). bit_xor c.args.f x % 2 ^ width F) mask in
     record {
-      u-added-to-each-bit = ap (bits_of (width F)) is ∙ added F c.args.f c.args.u;
-      stays-an-element =
+      u_added_to_each_bit = ap (bits_of (width F)) is ∙ added F c.args.f c.args.u;
+      stays_an_element =
           subst (λ (x : ℕ). x < 2 ^ width F) (sym is) (mod-lt (bit_xor c.args.f (cond c.args.u 65535 0)) (pow_pos (width F)));
     }

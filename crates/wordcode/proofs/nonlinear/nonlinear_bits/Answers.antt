@@ -14,33 +14,33 @@ loop-pair-preserved c =
     let F = c.args.field in
     let w = bits c.args.bytes.now in
     let p = c.loop-pair.pair in
-    let m : c.width.result ≡ width F = c.width.ensures.bits-of-an-element in
-    let t = turn F w p c.in-Some.product (c.in-Some.ensures.product-of-the-next-two ∙ ap (λ (r : ℕ). product_behind F w (p * (2 * r))) m) in
-    (c.sum-sum.ensures.sum-of-the-elements ∙ ap (λ (s : ℕ). sum F s c.in-Some.product) c.loop-pair.invariant.0 ∙ t.0, t.1)
+    let m : c.width.result ≡ width F = c.width.ensures.bits_of_an_element in
+    let t = turn F w p c.in-Some.product (c.in-Some.ensures.product_of_the_next_two ∙ ap (λ (r : ℕ). product_behind F w (p * (2 * r))) m) in
+    (c.sum-sum.ensures.sum_of_the_elements ∙ ap (λ (s : ℕ). sum F s c.in-Some.product) c.loop-pair.invariant.0 ∙ t.0, t.1)
 
 pub returns : goal.returns
 returns c =
     let F = c.args.field in
     let w = bits c.args.bytes.now in
     let k = c.args.count in
-    let m : c.width.result ≡ width F = c.width.ensures.bits-of-an-element in
-    let even : k % (2 * width F) ≡ 0 = ap (λ (r : ℕ). k % (2 * r)) (sym m) ∙ c.if-count-two-groups-ne0.false in
+    let m : c.width.result ≡ width F = c.width.ensures.bits_of_an_element in
+    let even : k % (2 * width F) ≡ 0 = ap (λ (r : ℕ). k % (2 * r)) (sym m) ∙ c.if-count-two_groups-ne0.false in
     let all : c.loop-pair.pair ≡ k / (2 * width F) =
     (let e : c.loop-pair.pair ≡ k / (2 * c.width.result) = omega arith in e) ∙ ap (λ (r : ℕ). k / (2 * r)) m in
     let enough : k ≤ length w =
     omega (arith, pairs_are k (width F) even, ap (λ (p : ℕ). double p * width F) all, c.loop-pair.invariant.1) in
     record {
-      f-of-the-first-bits-or-none =
+      f_of_the_first_bits_or_none =
           ap Some (c.loop-pair.invariant.0 ∙ ap (λ (p : ℕ). sum_of_products (product F) (groups (width F) (double p) w)) all ∙ whole F w k even enough)
           ∙ answers_f F w k even enough;
     }
 
-pub returns-in-default : goal.returns-in-default
-returns-in-default c =
+pub returns-in_default : goal.returns-in_default
+returns-in_default c =
     let F = c.args.field in
     let w = bits c.args.bytes.now in
     let k = c.args.count in
     let p = c.loop-pair.pair in
-    let m : c.width.result ≡ width F = c.width.ensures.bits-of-an-element in
-    let short : length w < p * (2 * c.width.result) + 2 * width F = ends_before F w (p * (2 * c.width.result)) c.in-default.ensures.product-of-the-next-two in
-    record { f-of-the-first-bits-or-none = no_f F w k (omega (arith, short, m, pair_room k c.width.result p c.loop-pair-test.true)) }
+    let m : c.width.result ≡ width F = c.width.ensures.bits_of_an_element in
+    let short : length w < p * (2 * c.width.result) + 2 * width F = ends_before F w (p * (2 * c.width.result)) c.in_default.ensures.product_of_the_next_two in
+    record { f_of_the_first_bits_or_none = no_f F w k (omega (arith, short, m, pair_room k c.width.result p c.loop-pair-test.true)) }

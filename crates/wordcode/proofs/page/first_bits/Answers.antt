@@ -8,8 +8,8 @@ use Rattle.wordcode.specs.Bytes.{padded}
 use Rattle.wordcode.proofs.Padding.{bits_padded, padded_cut}
 use Rattle.wordcode.proofs.page.first_bits.Goals as goal
 
-pub slice-bounds-copy-and-clear-end : goal.slice-bounds-copy-and-clear-end
-slice-bounds-copy-and-clear-end c = omega (arith, c.requires.page-has-them, bits_length c.args.page.now)
+pub slice_bounds-copy_and_clear-end : goal.slice_bounds-copy_and_clear-end
+slice_bounds-copy_and_clear-end c = omega (arith, c.requires.page_has_them, bits_length c.args.page.now)
 
 pub returns : goal.returns
 returns c =
@@ -18,14 +18,14 @@ returns c =
     let W = c.args.word.now in
     let b = (n + 7) / 8 - 0 in
     let s = 8 * ((n + 7) / 8) - n in
-    let out = c.copy-and-clear.new.out in
-    let enough : b ≤ length P = omega (arith, c.requires.page-has-them, bits_length P) in
+    let out = c.copy_and_clear.new.out in
+    let enough : b ≤ length P = omega (arith, c.requires.page_has_them, bits_length P) in
     let front : bits out ≡ padded (length W * 8) (take (b * 8) (bits P)) =
-    ap bits c.copy-and-clear.ensures.source-then-zeros ∙ bits_padded (length W) (take b P) ∙ ap (padded (length W * 8)) (bits_take b P enough) in
+    ap bits c.copy_and_clear.ensures.source_then_zeros ∙ bits_padded (length W) (take b P) ∙ ap (padded (length W * 8)) (bits_take b P enough) in
     record {
-      those-bits-then-zeros =
-          c.put-number.ensures.only-those-bits-are-set-so
-          ∙ number_there (bits out) n s 0 (omega arith) (omega (arith, c.requires.room.0, c.copy-and-clear.auto.out, bits_length out))
+      those_bits_then_zeros =
+          c.put_number.ensures.only_those_bits_are_set_so
+          ∙ number_there (bits out) n s 0 (omega arith) (omega (arith, c.requires.room.0, c.copy_and_clear.auto.out, bits_length out))
           ∙ ap₂ (with_run n) (bits_of_zero s) front
           ∙ padded_cut n s (length W * 8) (take (b * 8) (bits P)) (omega (arith, length-take-le (b * 8) (bits P) (omega (arith, bits_length P)))) (omega (arith, c.requires.room.0))
           ∙ ap₂ padded (sym (bits_length W)) (take-take n (b * 8) (bits P) (omega arith));

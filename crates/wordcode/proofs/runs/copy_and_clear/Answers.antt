@@ -7,6 +7,6 @@ returns c =
     let s = c.args.source.now in
     let o = c.args.out.now in
     record {
-      source-then-zeros =
-          ap₂ (λ (a b : List ℕ). a ++ b) c.copy-from-slice.ensures.after (ap (drop (length s)) (c.fill.ensures.after (λ y e. e)) ∙ drop-replicate (length s) (length o) 0);
+      source_then_zeros =
+          ap₂ (λ (a b : List ℕ). a ++ b) c.copy_from_slice.ensures.after (ap (drop (length s)) (c.fill.ensures.after (λ y e. e)) ∙ drop-replicate (length s) (length o) 0);
     }

@@ -14,17 +14,17 @@ loop-done-preserved c =
     let S = bits c.args.source.now in
     let s = take k (drop c.args.skip S) in
     let O = bits c.args.out.now in
-    let long : length s ≡ k = length-take-le k (drop c.args.skip S) (omega (arith, length-drop c.args.skip S, c.requires.source-has-them)) in
+    let long : length s ≡ k = length-take-le k (drop c.args.skip S) (omega (arith, length-drop c.args.skip S, c.requires.source_has_them)) in
     let lt : j < k = c.loop-done-test.true in
-    c.put.ensures.only-that-bit-is-set-so
+    c.put.ensures.only_that_bit_is_set_so
     ∙ ap₂ (λ (w : List Bool) (v : Bool). set w (c.args.at + j) v) c.loop-done.invariant
-    (c.is-set.ensures.the-bit-there ∙ sym (get_or-drop c.args.skip S j false) ∙ sym (get_or-take k (drop c.args.skip S) j false lt))
-    ∙ run_more c.args.at j s O (omega arith) (omega (arith, c.requires.out-has-room))
+    (c.is_set.ensures.the_bit_there ∙ sym (get_or-drop c.args.skip S j false) ∙ sym (get_or-take k (drop c.args.skip S) j false lt))
+    ∙ run_more c.args.at j s O (omega arith) (omega (arith, c.requires.out_has_room))
 
 pub returns : goal.returns
 returns c =
     let k = c.args.count in
     let S = bits c.args.source.now in
     let s = take k (drop c.args.skip S) in
-    let long : length s ≤ k = omega (arith, length-take-le k (drop c.args.skip S) (omega (arith, length-drop c.args.skip S, c.requires.source-has-them))) in
+    let long : length s ≤ k = omega (arith, length-take-le k (drop c.args.skip S) (omega (arith, length-drop c.args.skip S, c.requires.source_has_them))) in
     record { copied = c.loop-done.invariant ∙ run_all c.args.at c.loop-done.done s (bits c.args.out.now) (omega arith) }

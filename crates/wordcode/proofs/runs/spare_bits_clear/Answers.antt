@@ -9,24 +9,24 @@ next : (bs : List ℕ) (j : ℕ) (b : Bool) → j < 8 * length bs → b ≡ get_
 next bs j b h e =
     ap weight (drop_more (bits bs) j false (omega (arith, bits_length bs))) ∙ ap (λ (x : Bool). weight (x ∷ drop (j + 1) (bits bs))) (sym e)
 
-pub returns-then-is-set : goal.returns-then-is-set
-returns-then-is-set c =
+pub returns-then-is_set : goal.returns-then-is_set
+returns-then-is_set c =
     let bs = c.args.bytes.now in
     let j = c.loop-place.place in
-    let some = c.loop-place.invariant ∙ next bs j true c.loop-place-test.true (sym c.if-is-set.true ∙ c.is-set.ensures.the-bit-there) in
-    record { no-bit-behind-is-set = sym (ne_eqb (weight (drop c.args.count (bits bs))) 0 (λ e. omega (arith, e, some))) }
+    let some = c.loop-place.invariant ∙ next bs j true c.loop-place-test.true (sym c.if-is_set.true ∙ c.is_set.ensures.the_bit_there) in
+    record { no_bit_behind_is_set = sym (ne_eqb (weight (drop c.args.count (bits bs))) 0 (λ e. omega (arith, e, some))) }
 
 pub loop-place-preserved : goal.loop-place-preserved
 loop-place-preserved c =
     let bs = c.args.bytes.now in
     let j = c.loop-place.place in
-    c.loop-place.invariant ∙ next bs j false c.loop-place-test.true (sym c.if-is-set.false ∙ c.is-set.ensures.the-bit-there)
+    c.loop-place.invariant ∙ next bs j false c.loop-place-test.true (sym c.if-is_set.false ∙ c.is_set.ensures.the_bit_there)
 
 pub returns : goal.returns
 returns c =
     let bs = c.args.bytes.now in
     let j = c.loop-place.place in
     record {
-      no-bit-behind-is-set =
+      no_bit_behind_is_set =
           sym (ap (λ (n : ℕ). eqb n 0) (c.loop-place.invariant ∙ ap weight (drop_all j (bits bs) (omega (arith, bits_length bs, c.loop-place-test.false)))));
     }

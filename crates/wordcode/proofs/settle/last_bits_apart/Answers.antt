@@ -14,8 +14,8 @@ use Rattle.wordcode.proofs.settle.last_bits_apart.Goals as goal
 at_most_16 : (a b : ℕ) → a < 65536 → b < 65536 → ones (bit_xor a b) ≤ 16
 at_most_16 a b ha hb = ones-le 16 (bit_xor a b) (xor_lt 16 a b ha hb)
 
-pub overflow-cast-result : goal.overflow-cast-result
-overflow-cast-result c = omega (arith, at_most_16 c.unwrap-or-there.result c.last-bits.result c.unwrap-or-there.type-inv c.last-bits.type-inv)
+pub overflow_cast-result : goal.overflow_cast-result
+overflow_cast-result c = omega (arith, at_most_16 c.unwrap_or-there.result c.last_bits.result c.unwrap_or-there.type_inv c.last_bits.type_inv)
 
 pub returns : goal.returns
 returns c =
@@ -23,15 +23,15 @@ returns c =
     let s = c.args.skip in
     let x = take c.args.width (drop s W) in
     record {
-      differing-last-bits = λ F is pairs enough.
+      differing_last_bits = λ F is pairs enough.
           let w : width F ≡ c.args.width = field_of_width c.args.width F is in
           let b = f_bits F (take c.args.k1 (bits c.args.inner.now)) in
-          let long : length x ≡ width F = length-take-le c.args.width (drop s W) (omega (arith, length-drop s W, c.requires.word-has-them)) ∙ sym w in
-          let value : c.unwrap-or-there.result ≡ number x =
-          c.unwrap-or-there.ensures ∙ ap (λ (o : _). unwrap_or o 0) c.number.ensures.number-of-those-bits
-          ∙ number_there W s c.args.width (omega (arith, w)) (omega (arith, w, (widths F).1)) c.requires.word-has-them in
-          ap (λ (n : ℕ). ones (bit_xor n c.last-bits.result)) value
-          ∙ counted (width F) c.args.u x b c.last-bits.result long (bits_of_length (width F) (f F (take c.args.k1 (bits c.args.inner.now))))
-          (c.last-bits.ensures.f-with-u-added F is pairs enough) (c.last-bits.ensures.an-element F is);
-      no-more-than-16 = at_most_16 c.unwrap-or-there.result c.last-bits.result c.unwrap-or-there.type-inv c.last-bits.type-inv;
+          let long : length x ≡ width F = length-take-le c.args.width (drop s W) (omega (arith, length-drop s W, c.requires.word_has_them)) ∙ sym w in
+          let value : c.unwrap_or-there.result ≡ number x =
+          c.unwrap_or-there.ensures ∙ ap (λ (o : _). unwrap_or o 0) c.number.ensures.number_of_those_bits
+          ∙ number_there W s c.args.width (omega (arith, w)) (omega (arith, w, (widths F).1)) c.requires.word_has_them in
+          ap (λ (n : ℕ). ones (bit_xor n c.last_bits.result)) value
+          ∙ counted (width F) c.args.u x b c.last_bits.result long (bits_of_length (width F) (f F (take c.args.k1 (bits c.args.inner.now))))
+          (c.last_bits.ensures.f_with_u_added F is pairs enough) (c.last_bits.ensures.an_element F is);
+      no_more_than_16 = at_most_16 c.unwrap_or-there.result c.last_bits.result c.unwrap_or-there.type_inv c.last_bits.type_inv;
     }

@@ -12,13 +12,13 @@ returns c =
     let C = c.args.self in
     let w = bits c.args.bytes.now in
     let k = data_bits C in
-    let n : c.word-bits.result - (c.generator-top.result + 1) ≡ k =
-    omega (arith, c.word-bits.ensures.bits-of-a-word, c.generator-top.ensures.one-less-than-the-check-bits) in
-    let enough : leb k (length w) ≡ true = ap (λ (i : ℕ). leb i (length w)) (sym n) ∙ sym c.if-not-holds.ensures.at-least-that-many-bits in
-    let is : c.remainder.result ≡ checks_number C (take k w) = c.remainder.ensures.of-those-bits ∙ ap (λ (i : ℕ). checks_number C (take i w)) n in
+    let n : c.word_bits.result - (c.generator_top.result + 1) ≡ k =
+    omega (arith, c.word_bits.ensures.bits_of_a_word, c.generator_top.ensures.one_less_than_the_check_bits) in
+    let enough : leb k (length w) ≡ true = ap (λ (i : ℕ). leb i (length w)) (sym n) ∙ sym c.if-not-holds.ensures.at_least_that_many_bits in
+    let is : c.remainder.result ≡ checks_number C (take k w) = c.remainder.ensures.of_those_bits ∙ ap (λ (i : ℕ). checks_number C (take i w)) n in
     record {
-      remainder-by-the-generator = ap Some is ∙ sym (ap (λ (b : Bool). cond b (Some (checks_number C (take k w))) None) enough);
-      complete-a-codeword =
+      remainder_by_the_generator = ap Some is ∙ sym (ap (λ (b : Bool). cond b (Some (checks_number C (take k w))) None) enough);
+      complete_a_codeword =
           subst (λ (x : ℕ). WordOf C (take k w ++ bits_of (check_bits C) x)) (sym is)
           ((inner_code C).data_are_free (take k w) (length-take-le k w (leb-true k (length w) enough)));
     }

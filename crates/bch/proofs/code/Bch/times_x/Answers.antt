@@ -7,19 +7,19 @@ use Rattle.bch.proofs.code.Bch.times_x.Goals as goal
 pub returns-then-register-top-eq1 : goal.returns-then-register-top-eq1
 returns-then-register-top-eq1 c =
     let C = c.args.self in
-    let top = c.generator-top-top in
-    let tail = c.generator-tail in
+    let top = c.generator_top-top in
+    let tail = c.generator_tail in
     record {
-      moves-up-and-reduces =
-          times_x_set 128 (generator_top C) (generator_tail C) c.args.register (omega (arith, (tested C).small)) top.result top.ensures.one-less-than-the-check-bits
-          tail.result tail.ensures.lower-terms-of-the-generator c.if-register-top-eq1.true;
+      moves_up_and_reduces =
+          times_x_set 128 (generator_top C) (generator_tail C) c.args.register (omega (arith, (tested C).small)) top.result top.ensures.one_less_than_the_check_bits
+          tail.result tail.ensures.lower_terms_of_the_generator c.if-register-top-eq1.true;
     }
 
 pub returns-else-register-top-eq1 : goal.returns-else-register-top-eq1
 returns-else-register-top-eq1 c =
     let C = c.args.self in
-    let top = c.generator-top-top in
+    let top = c.generator_top-top in
     record {
-      moves-up-and-reduces =
-          times_x_clear 128 (generator_top C) (generator_tail C) c.args.register (omega (arith, (tested C).small)) top.result top.ensures.one-less-than-the-check-bits c.if-register-top-eq1.false;
+      moves_up_and_reduces =
+          times_x_clear 128 (generator_top C) (generator_tail C) c.args.register (omega (arith, (tested C).small)) top.result top.ensures.one_less_than_the_check_bits c.if-register-top-eq1.false;
     }

@@ -20,31 +20,31 @@ pub returns-then-not-holds : goal.returns-then-not-holds
 returns-then-not-holds c =
     let C = c.args.self in
     let w = bits c.args.word.now in
-    let e = room C w false c.inner-bits.result c.inner-bits.ensures.bits-of-a-word c.if-not-holds.ensures.at-least-that-many-bits in
-    record { accepts-bits-enough-for-a-codeword = e; check-bits-follow-the-data = outcome C w false e }
+    let e = room C w false c.inner_bits.result c.inner_bits.ensures.bits_of_a_word c.if-not-holds.ensures.at_least_that_many_bits in
+    record { accepts_bits_enough_for_a_codeword = e; check_bits_follow_the_data = outcome C w false e }
 
 pub returns : goal.returns
 returns c =
     let C = c.args.self in
     let w = bits c.args.word.now in
     let k = data_bits C in
-    let e = room C w true c.inner-bits.result c.inner-bits.ensures.bits-of-a-word c.if-not-holds.ensures.at-least-that-many-bits in
-    let few : c.check-bits.result ≤ 128 = omega (arith, (tested C).small, c.check-bits.ensures.check-bits-of-a-word) in
-    let enough : c.data-bits-2.result + c.check-bits.result ≤ length w =
+    let e = room C w true c.inner_bits.result c.inner_bits.ensures.bits_of_a_word c.if-not-holds.ensures.at_least_that_many_bits in
+    let few : c.check_bits.result ≤ 128 = omega (arith, (tested C).small, c.check_bits.ensures.check_bits_of_a_word) in
+    let enough : c.data_bits-2.result + c.check_bits.result ≤ length w =
     omega (
       arith,
-      leb-true c.inner-bits.result (length w) (sym c.if-not-holds.ensures.at-least-that-many-bits),
-      c.inner-bits.ensures.bits-of-a-word,
-      c.data-bits-2.ensures.data-bits-of-a-word,
-      c.check-bits.ensures.check-bits-of-a-word,
+      leb-true c.inner_bits.result (length w) (sym c.if-not-holds.ensures.at_least_that_many_bits),
+      c.inner_bits.ensures.bits_of_a_word,
+      c.data_bits-2.ensures.data_bits_of_a_word,
+      c.check_bits.ensures.check_bits_of_a_word,
     ) in
     record {
-      accepts-bits-enough-for-a-codeword = e;
-      check-bits-follow-the-data =
-          c.put-number.ensures.only-those-bits-are-set-so
-          ∙ number_between w c.data-bits-2.result c.check-bits.result c.remainder-checks.result few enough
-          ∙ ap₂ (λ (i j : ℕ). take i w ++ (bits_of j c.remainder-checks.result ++ drop (i + j) w)) c.data-bits-2.ensures.data-bits-of-a-word c.check-bits.ensures.check-bits-of-a-word
+      accepts_bits_enough_for_a_codeword = e;
+      check_bits_follow_the_data =
+          c.put_number.ensures.only_those_bits_are_set_so
+          ∙ number_between w c.data_bits-2.result c.check_bits.result c.remainder-checks.result few enough
+          ∙ ap₂ (λ (i j : ℕ). take i w ++ (bits_of j c.remainder-checks.result ++ drop (i + j) w)) c.data_bits-2.ensures.data_bits_of_a_word c.check_bits.ensures.check_bits_of_a_word
           ∙ ap (λ (x : ℕ). take k w ++ (bits_of (check_bits C) x ++ drop (inner_bits C) w))
-          (c.remainder-checks.ensures.of-those-bits ∙ ap (λ (i : ℕ). checks_number C (take i w)) c.data-bits.ensures.data-bits-of-a-word)
+          (c.remainder-checks.ensures.of_those_bits ∙ ap (λ (i : ℕ). checks_number C (take i w)) c.data_bits.ensures.data_bits_of_a_word)
           ∙ outcome C w true e;
     }

@@ -33,83 +33,83 @@ returns-then-rest-eq0 c =
     let C = c.args.self in
     let B = bits c.args.word.now in
     let enough : inner_bits C ≤ length B =
-    subst (λ (n : ℕ). n ≤ length B) c.inner-bits-count.ensures.bits-of-a-word (leb-true c.inner-bits-count.result (length B) (sym c.if-not-holds.ensures.at-least-that-many-bits)) in
+    subst (λ (n : ℕ). n ≤ length B) c.inner_bits-count.ensures.bits_of_a_word (leb-true c.inner_bits-count.result (length B) (sym c.if-not-holds.ensures.at_least_that_many_bits)) in
     record {
-      the-codeword-at-most-t-bits-away-or-none =
-          unchanged C B enough (codeword C B enough (sym c.rest-rest.ensures.checks-asked-for-and-found ∙ c.if-rest-eq0.true));
+      the_codeword_at_most_t_bits_away_or_none =
+          unchanged C B enough (codeword C B enough (sym c.rest-rest.ensures.checks_asked_for_and_found ∙ c.if-rest-eq0.true));
     }
 
 pub rest-requires : goal.rest-requires
 rest-requires c =
-    let n = c.inner-bits-count.result in
+    let n = c.inner_bits-count.result in
     record {
-      enough = subst (λ (n : ℕ). n ≤ length (bits c.flip-roots-flips.new.bytes)) c.inner-bits-count.ensures.bits-of-a-word
-          (as_many c.flip-roots-flips.new.bytes c.args.word.now n c.flip-roots-flips.auto.bytes
-          (leb-true n (length (bits c.args.word.now)) (sym c.if-not-holds.ensures.at-least-that-many-bits)));
+      enough = subst (λ (n : ℕ). n ≤ length (bits c.flip_roots-flips.new.bytes)) c.inner_bits-count.ensures.bits_of_a_word
+          (as_many c.flip_roots-flips.new.bytes c.args.word.now n c.flip_roots-flips.auto.bytes
+          (leb-true n (length (bits c.args.word.now)) (sym c.if-not-holds.ensures.at_least_that_many_bits)));
     }
 
-pub flip-roots-requires : goal.flip-roots-requires
-flip-roots-requires c =
-    let n = c.inner-bits-count.result in
+pub flip_roots-requires : goal.flip_roots-requires
+flip_roots-requires c =
+    let n = c.inner_bits-count.result in
     record {
-      enough = as_many c.flip-roots-flips.new.bytes c.args.word.now n c.flip-roots-flips.auto.bytes
-          (leb-true n (length (bits c.args.word.now)) (sym c.if-not-holds.ensures.at-least-that-many-bits));
+      enough = as_many c.flip_roots-flips.new.bytes c.args.word.now n c.flip_roots-flips.auto.bytes
+          (leb-true n (length (bits c.args.word.now)) (sym c.if-not-holds.ensures.at_least_that_many_bits));
     }
 
 pub returns-then-rest-eq0-2 : goal.returns-then-rest-eq0-2
 returns-then-rest-eq0-2 c =
     let C = c.args.self in
-    let eF = c.field-field.ensures.its-field in
-    let en = c.inner-bits-count.ensures.bits-of-a-word in
-    let et = c.errors-t.ensures.wrong-bits-that-are-corrected in
+    let eF = c.field-field.ensures.its_field in
+    let en = c.inner_bits-count.ensures.bits_of_a_word in
+    let et = c.errors-t.ensures.wrong_bits_that_are_corrected in
     let B = bits c.args.word.now in
-    let A = bits c.flip-roots-flips.new.bytes in
+    let A = bits c.flip_roots-flips.new.bytes in
     let s = c.syndromes-sums.result in
     let ps = take c.solve-left.result.count c.solve-left.result.polys in
     let enough : inner_bits C ≤ length B =
-    subst (λ (n : ℕ). n ≤ length B) en (leb-true c.inner-bits-count.result (length B) (sym c.if-not-holds.ensures.at-least-that-many-bits)) in
+    subst (λ (n : ℕ). n ≤ length B) en (leb-true c.inner_bits-count.result (length B) (sym c.if-not-holds.ensures.at_least_that_many_bits)) in
     record {
-      the-codeword-at-most-t-bits-away-or-none =
+      the_codeword_at_most_t_bits_away_or_none =
           accepted C B s ps enough
-          (agree C B enough s c.rest-rest.result c.check-bits.result c.rest-rest.ensures.checks-asked-for-and-found c.check-bits.ensures.check-bits-of-a-word
-          (at_code (λ F n t. (j : ℕ) → 1 ≤ j → j ≤ t + t → sequence s j ≡ syndrome F (bits_of c.check-bits.result c.rest-rest.result) j) eF en et c.syndromes-sums.ensures.one-to-twice-t))
-          (at_code (λ F n t. ps ≡ met_all (product F) (inverse_or_0 F) (sequence s) t 1 (take (t + 1) unit_rows)) eF en et c.solve-left.ensures.meet-all-equations)
-          A (at_code (λ F n t. A ≡ add B (root_marks F ps n)) eF en et c.flip-roots-flips.ensures.flips-the-roots)
-          c.flip-roots-flips.result
-          (at_code (λ F n t. c.flip-roots-flips.result ≡ weight (root_marks F ps n)) eF en et c.flip-roots-flips.ensures.counts-the-roots)
-          (at_code (λ F n t. c.flip-roots-flips.result ≤ t) eF en et c.if-flips-t.true)
-          (codeword C A (as_many c.flip-roots-flips.new.bytes c.args.word.now (inner_bits C) c.flip-roots-flips.auto.bytes enough)
-          (sym c.rest.ensures.checks-asked-for-and-found ∙ c.if-rest-eq0-2.true));
+          (agree C B enough s c.rest-rest.result c.check_bits.result c.rest-rest.ensures.checks_asked_for_and_found c.check_bits.ensures.check_bits_of_a_word
+          (at_code (λ F n t. (j : ℕ) → 1 ≤ j → j ≤ t + t → sequence s j ≡ syndrome F (bits_of c.check_bits.result c.rest-rest.result) j) eF en et c.syndromes-sums.ensures.one_to_twice_t))
+          (at_code (λ F n t. ps ≡ met_all (product F) (inverse_or_0 F) (sequence s) t 1 (take (t + 1) unit_rows)) eF en et c.solve-left.ensures.meet_all_equations)
+          A (at_code (λ F n t. A ≡ add B (root_marks F ps n)) eF en et c.flip_roots-flips.ensures.flips_the_roots)
+          c.flip_roots-flips.result
+          (at_code (λ F n t. c.flip_roots-flips.result ≡ weight (root_marks F ps n)) eF en et c.flip_roots-flips.ensures.counts_the_roots)
+          (at_code (λ F n t. c.flip_roots-flips.result ≤ t) eF en et c.if-flips-t.true)
+          (codeword C A (as_many c.flip_roots-flips.new.bytes c.args.word.now (inner_bits C) c.flip_roots-flips.auto.bytes enough)
+          (sym c.rest.ensures.checks_asked_for_and_found ∙ c.if-rest-eq0-2.true));
     }
 
 pub returns : goal.returns
 returns c =
     let C = c.args.self in
-    let eF = c.field-field.ensures.its-field in
-    let en = c.inner-bits-count.ensures.bits-of-a-word in
-    let et = c.errors-t.ensures.wrong-bits-that-are-corrected in
+    let eF = c.field-field.ensures.its_field in
+    let en = c.inner_bits-count.ensures.bits_of_a_word in
+    let et = c.errors-t.ensures.wrong_bits_that_are_corrected in
     let B = bits c.args.word.now in
-    let A = bits c.flip-roots-flips.new.bytes in
-    let L = bits c.flip-roots.new.bytes in
+    let A = bits c.flip_roots-flips.new.bytes in
+    let L = bits c.flip_roots.new.bytes in
     let s = c.syndromes-sums.result in
     let ps = take c.solve-left.result.count c.solve-left.result.polys in
     let enough : inner_bits C ≤ length B =
-    subst (λ (n : ℕ). n ≤ length B) en (leb-true c.inner-bits-count.result (length B) (sym c.if-not-holds.ensures.at-least-that-many-bits)) in
-    let same = agree C B enough s c.rest-rest.result c.check-bits.result c.rest-rest.ensures.checks-asked-for-and-found c.check-bits.ensures.check-bits-of-a-word
-    (at_code (λ F n t. (j : ℕ) → 1 ≤ j → j ≤ t + t → sequence s j ≡ syndrome F (bits_of c.check-bits.result c.rest-rest.result) j) eF en et c.syndromes-sums.ensures.one-to-twice-t) in
-    let solved = at_code (λ F n t. ps ≡ met_all (product F) (inverse_or_0 F) (sequence s) t 1 (take (t + 1) unit_rows)) eF en et c.solve-left.ensures.meet-all-equations in
-    let flipped = at_code (λ F n t. A ≡ add B (root_marks F ps n)) eF en et c.flip-roots-flips.ensures.flips-the-roots in
-    let again = at_code (λ F n t. L ≡ add A (root_marks F ps n)) eF en et c.flip-roots.ensures.flips-the-roots in
+    subst (λ (n : ℕ). n ≤ length B) en (leb-true c.inner_bits-count.result (length B) (sym c.if-not-holds.ensures.at_least_that_many_bits)) in
+    let same = agree C B enough s c.rest-rest.result c.check_bits.result c.rest-rest.ensures.checks_asked_for_and_found c.check_bits.ensures.check_bits_of_a_word
+    (at_code (λ F n t. (j : ℕ) → 1 ≤ j → j ≤ t + t → sequence s j ≡ syndrome F (bits_of c.check_bits.result c.rest-rest.result) j) eF en et c.syndromes-sums.ensures.one_to_twice_t) in
+    let solved = at_code (λ F n t. ps ≡ met_all (product F) (inverse_or_0 F) (sequence s) t 1 (take (t + 1) unit_rows)) eF en et c.solve-left.ensures.meet_all_equations in
+    let flipped = at_code (λ F n t. A ≡ add B (root_marks F ps n)) eF en et c.flip_roots-flips.ensures.flips_the_roots in
+    let again = at_code (λ F n t. L ≡ add A (root_marks F ps n)) eF en et c.flip_roots.ensures.flips_the_roots in
     record {
-      the-codeword-at-most-t-bits-away-or-none =
+      the_codeword_at_most_t_bits_away_or_none =
           elim c.else-flips-t.branch [
             | else-flips-t-via-then-flips-t+else-rest-eq0-2 w ↦
                 not_a_codeword C B s ps enough same solved A flipped
-                (no_codeword C A (as_many c.flip-roots-flips.new.bytes c.args.word.now (inner_bits C) c.flip-roots-flips.auto.bytes enough)
-                (λ e. w.if-rest-eq0-2.false (w.rest.ensures.checks-asked-for-and-found ∙ e))) L again
+                (no_codeword C A (as_many c.flip_roots-flips.new.bytes c.args.word.now (inner_bits C) c.flip_roots-flips.auto.bytes enough)
+                (λ e. w.if-rest-eq0-2.false (w.rest.ensures.checks_asked_for_and_found ∙ e))) L again
             | else-flips-t-via-else-flips-t w ↦
-                too_many_flips C B s ps enough same solved A flipped c.flip-roots-flips.result
-                (at_code (λ F n t. c.flip-roots-flips.result ≡ weight (root_marks F ps n)) eF en et c.flip-roots-flips.ensures.counts-the-roots)
-                (at_code (λ F n t. t < c.flip-roots-flips.result) eF en et w.if-flips-t.false) L again
+                too_many_flips C B s ps enough same solved A flipped c.flip_roots-flips.result
+                (at_code (λ F n t. c.flip_roots-flips.result ≡ weight (root_marks F ps n)) eF en et c.flip_roots-flips.ensures.counts_the_roots)
+                (at_code (λ F n t. t < c.flip_roots-flips.result) eF en et w.if-flips-t.false) L again
           ];
     }

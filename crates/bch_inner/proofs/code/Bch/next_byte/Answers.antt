@@ -6,7 +6,7 @@ pub returns : goal.returns
 returns c =
     let C = c.args.self in
     record {
-      eight-bits-on =
-          by_table C c.args.table.now c.requires.remainders (c.check-bits-keep.result - 8) c.args.register c.from.result c.args.byte
-          (omega (arith, c.check-bits-keep.ensures.check-bits-of-a-word, (tops C).1)) c.from.ensures c.ranges.byte.fits c.requires.reduced;
+      eight_bits_on =
+          by_table C c.args.table.now c.requires.remainders (c.check_bits-keep.result - 8) c.args.register c.from.result c.args.byte
+          (omega (arith, c.check_bits-keep.ensures.check_bits_of_a_word, (tops C).1)) c.from.ensures c.ranges.byte.fits c.requires.reduced;
     }

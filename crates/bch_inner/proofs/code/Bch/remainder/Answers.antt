@@ -11,7 +11,7 @@ use Rattle.bch_inner.specs.Theory.Tested.{tested}
 use Rattle.bch_inner.proofs.Bytes.{byte_more}
 use Rattle.bch_inner.proofs.Runs as runs
 use Rattle.bch_inner.proofs.code.Bch.remainder.Goals as goal
-use Rattle.bch_inner.proofs.code.Bch.remainder.Goals.{then-is-set, else-is-set}
+use Rattle.bch_inner.proofs.code.Bch.remainder.Goals.{then-is_set, else-is_set}
 
 start : (C : Bch) → 0 ≡ checks_number C []
 unfolding running
@@ -23,12 +23,12 @@ bounds-bytes-i c = omega (arith, bits_length c.args.bytes.now, c.loop-i-test.tru
 pub loop-i-init : goal.loop-i-init
 loop-i-init c = start c.args.self
 
-pub next-byte-register-requires : goal.next-byte-register-requires
-next-byte-register-requires c =
+pub next_byte-register-requires : goal.next_byte-register-requires
+next_byte-register-requires c =
     let C = c.args.self in
     let w = take (c.loop-i.i * 8) (bits c.args.bytes.now) in
     record {
-      remainders = c.remainders-table.ensures.each-at-its-byte;
+      remainders = c.remainders-table.ensures.each_at_its_byte;
       reduced = subst (λ (x : ℕ). x < 2 ^ check_bits C) (sym c.loop-i.invariant) (remainder_lt (generator_top C) (generator_tail C) (tested C).tail w 0 (pow_pos (check_bits C)));
     }
 
@@ -39,7 +39,7 @@ loop-i-preserved c =
     let g = generator_tail C in
     let bs = c.args.bytes.now in
     let i = c.loop-i.i in
-    c.next-byte-register.ensures.eight-bits-on
+    c.next_byte-register.ensures.eight_bits_on
     ∙ ap (λ (r : ℕ). remainder n g r (bits_of 8 (get_or bs i 0))) c.loop-i.invariant
     ∙ sym (ap (checks_number C) (byte_more bs i (omega (arith, bits_length bs, c.loop-i-test.true, c.requires.enough))) ∙ runs.on (times_x n g) g 0 (take (i * 8) (bits bs)) (bits_of 8 (get_or bs i 0)))
 
@@ -53,20 +53,20 @@ loop-skip-preserved c =
     let g = generator_tail C in
     let w = bits c.args.bytes.now in
     let i = c.loop-skip.skip in
-    let v : c.if-is-set.register ≡ bit_xor (times_x n g c.loop-skip.register) (cond (get_or w i false) g 0) =
-    elim c.if-is-set.branch [
-      | then-is-set y ↦
-          y.register-is ∙ ap₂ bit_xor c.times-x-register.ensures.moves-up-and-reduces
-          (y.generator-tail-register.ensures.lower-terms-of-the-generator ∙ ap (λ (b : Bool). cond b g 0) y.if-is-set.ensures.the-bit-there)
-      | else-is-set y ↦
-          y.register-is ∙ sym (xor_zero_r c.times-x-register.result)
-          ∙ ap₂ bit_xor c.times-x-register.ensures.moves-up-and-reduces (ap (λ (b : Bool). cond b g 0) y.if-is-set.ensures.the-bit-there)
+    let v : c.if-is_set.register ≡ bit_xor (times_x n g c.loop-skip.register) (cond (get_or w i false) g 0) =
+    elim c.if-is_set.branch [
+      | then-is_set y ↦
+          y.register-is ∙ ap₂ bit_xor c.times_x-register.ensures.moves_up_and_reduces
+          (y.generator_tail-register.ensures.lower_terms_of_the_generator ∙ ap (λ (b : Bool). cond b g 0) y.if-is_set.ensures.the_bit_there)
+      | else-is_set y ↦
+          y.register-is ∙ sym (xor_zero_r c.times_x-register.result)
+          ∙ ap₂ bit_xor c.times_x-register.ensures.moves_up_and_reduces (ap (λ (b : Bool). cond b g 0) y.if-is_set.ensures.the_bit_there)
     ] in
-    runs.turn (times_x n g) g 0 c.loop-skip.register c.if-is-set.register w i (omega (arith, c.loop-skip-test.true, c.requires.enough)) v c.loop-skip.invariant
+    runs.turn (times_x n g) g 0 c.loop-skip.register c.if-is_set.register w i (omega (arith, c.loop-skip-test.true, c.requires.enough)) v c.loop-skip.invariant
 
 pub returns : goal.returns
 returns c =
     record {
-      of-those-bits = c.loop-skip.invariant
+      of_those_bits = c.loop-skip.invariant
           ∙ ap (λ (k : ℕ). checks_number c.args.self (take k (bits c.args.bytes.now))) (let e : c.loop-skip.skip ≡ c.args.count = omega arith in e);
     }

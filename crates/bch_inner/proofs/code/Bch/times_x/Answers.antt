@@ -7,19 +7,19 @@ use Rattle.bch_inner.proofs.code.Bch.times_x.Goals as goal
 pub returns-then-register-top-eq1 : goal.returns-then-register-top-eq1
 returns-then-register-top-eq1 c =
     let C = c.args.self in
-    let top : c.check-bits-top.result - 1 ≡ generator_top C = omega (arith, c.check-bits-top.ensures.check-bits-of-a-word) in
-    let tail = c.generator-tail in
+    let top : c.check_bits-top.result - 1 ≡ generator_top C = omega (arith, c.check_bits-top.ensures.check_bits_of_a_word) in
+    let tail = c.generator_tail in
     record {
-      moves-up-and-reduces =
-          times_x_set 128 (generator_top C) (generator_tail C) c.args.register (omega (arith, (tested C).small)) (c.check-bits-top.result - 1) top
-          tail.result tail.ensures.lower-terms-of-the-generator c.if-register-top-eq1.true;
+      moves_up_and_reduces =
+          times_x_set 128 (generator_top C) (generator_tail C) c.args.register (omega (arith, (tested C).small)) (c.check_bits-top.result - 1) top
+          tail.result tail.ensures.lower_terms_of_the_generator c.if-register-top-eq1.true;
     }
 
 pub returns-else-register-top-eq1 : goal.returns-else-register-top-eq1
 returns-else-register-top-eq1 c =
     let C = c.args.self in
-    let top : c.check-bits-top.result - 1 ≡ generator_top C = omega (arith, c.check-bits-top.ensures.check-bits-of-a-word) in
+    let top : c.check_bits-top.result - 1 ≡ generator_top C = omega (arith, c.check_bits-top.ensures.check_bits_of_a_word) in
     record {
-      moves-up-and-reduces =
-          times_x_clear 128 (generator_top C) (generator_tail C) c.args.register (omega (arith, (tested C).small)) (c.check-bits-top.result - 1) top c.if-register-top-eq1.false;
+      moves_up_and_reduces =
+          times_x_clear 128 (generator_top C) (generator_tail C) c.args.register (omega (arith, (tested C).small)) (c.check_bits-top.result - 1) top c.if-register-top-eq1.false;
     }

@@ -17,9 +17,9 @@ returns-then-against-ne0 c =
     let ps = c.args.self.now.polys in
     let n = c.args.self.now.count in
     let k = c.loop-k.k in
-    let v = value m (get_or ps k []) c.powers-powers.result y c.against.result c.against.ensures.six-coefficients c.powers-powers.ensures.each-at-its-index c.against.ensures.sum-of-products in
+    let v = value m (get_or ps k []) c.powers-powers.result y c.against.result c.against.ensures.six_coefficients c.powers-powers.ensures.each_at_its_index c.against.ensures.sum_of_products in
     record {
-      all-are-0-there =
+      all_are_0_there =
           rows.root_fails m y ps (all_vanish m (take n ps) y) n k c.loop-k-test.true (omega arith) (λ e. c.if-against-ne0.true (v ∙ e)) c.loop-k.invariant;
     }
 
@@ -30,7 +30,7 @@ loop-k-preserved c =
     let ps = c.args.self.now.polys in
     let n = c.args.self.now.count in
     let k = c.loop-k.k in
-    let v = value m (get_or ps k []) c.powers-powers.result y c.against.result c.against.ensures.six-coefficients c.powers-powers.ensures.each-at-its-index c.against.ensures.sum-of-products in
+    let v = value m (get_or ps k []) c.powers-powers.result y c.against.result c.against.ensures.six_coefficients c.powers-powers.ensures.each_at_its_index c.against.ensures.sum_of_products in
     rows.root_turn m y ps (all_vanish m (take n ps) y) n k c.loop-k-test.true (omega arith) (sym v ∙ c.if-against-ne0.false) c.loop-k.invariant
 
 pub returns : goal.returns
@@ -39,6 +39,6 @@ returns c =
     let ps = c.args.self.now.polys in
     let n = c.args.self.now.count in
     record {
-      all-are-0-there =
+      all_are_0_there =
           rows.root_end m c.args.y ps (all_vanish m (take n ps) c.args.y) n c.loop-k.k c.loop-k-test.false c.loop-k.invariant;
     }

@@ -5,7 +5,7 @@ use Rattle.bch_inner.proofs.eliminate.Survivors.vanish_by_terms.Goals as goal
 pub returns-else-terms-eq0 : goal.returns-else-terms-eq0
 returns-else-terms-eq0 c =
     record {
-      all-are-0-there =
+      all_are_0_there =
           first_fails c.args.field c.args.self.now.polys c.args.self.now.count c.args.terms.now c.args.y (omega arith)
-          c.requires.terms-of-the-first c.if-terms-eq0.false;
+          c.requires.terms_of_the_first c.if-terms-eq0.false;
     }

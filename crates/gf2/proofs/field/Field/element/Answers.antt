@@ -11,6 +11,6 @@ returns c =
     let a = c.args.a in
     record {
       low_bits =
-          ap (λ (k : ℕ). bit_and a ((1 * 2 ^ k) % 2 ^ 16 - 1)) c.width.ensures.bits-of-an-element
+          ap (λ (k : ℕ). bit_and a ((1 * 2 ^ k) % 2 ^ 16 - 1)) c.width.ensures.bits_of_an_element
           ∙ low_bits 16 (width F) a (omega (arith, (widths F).1));
     }

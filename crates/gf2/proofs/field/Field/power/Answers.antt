@@ -28,10 +28,10 @@ loop-left-preserved c =
     let r = c.loop-left.result in
     let s = c.loop-left.square in
     let e = c.loop-left.left in
-    let squared = c.product-square.ensures.product-of-the-elements in
+    let squared = c.product-square.ensures.product_of_the_elements in
     elim c.if-left-eq1.branch [
       | then-left-eq1 w ↦
-          let gathered = w.result-is ∙ w.product-result.ensures.product-of-the-elements in (
+          let gathered = w.result-is ∙ w.product-result.ensures.product_of_the_elements in (
             ap₂ (λ (x y : ℕ). m x (power F y (e / 2))) gathered squared
                 ∙ powers.square_odd k m R nontrivial r s e w.if-left-eq1.true ∙ c.loop-left.invariant.0,
             subst (λ (x : ℕ). x < 2 ^ k) (sym gathered) (R.closed r s),
@@ -46,7 +46,7 @@ loop-left-preserved c =
 
 pub returns : goal.returns
 returns c = record {
-  product-of-that-many =
+  product_of_that_many =
       sym (end c.args.self c.loop-left.result c.loop-left.square c.loop-left.left c.loop-left.invariant.1 (omega arith))
       ∙ c.loop-left.invariant.0;
 }

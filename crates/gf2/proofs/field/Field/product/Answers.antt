@@ -30,28 +30,28 @@ end n p a b i h =
 pub loop-i-init : goal.loop-i-init
 loop-i-init c =
     let F = c.args.self in
-    start (top F) (modulus_tail F) (element F c.args.a) c.args.b c.width-i.result c.width-i.ensures.bits-of-an-element
+    start (top F) (modulus_tail F) (element F c.args.a) c.args.b c.width-i.result c.width-i.ensures.bits_of_an_element
 
 pub loop-i-preserved-then-b-i-eq1 : goal.loop-i-preserved-then-b-i-eq1
 loop-i-preserved-then-b-i-eq1 c =
     let F = c.args.self in
     let a = element F c.args.a in
     let i = c.loop-i.i in
-    ap₂ bit_xor (c.times-alpha-sum.ensures.product-with-alpha ∙ sym (times_alpha F c.loop-i.sum) ∙ ap (times_x (top F) (modulus_tail F)) c.loop-i.invariant)
+    ap₂ bit_xor (c.times_alpha-sum.ensures.product_with_alpha ∙ sym (times_alpha F c.loop-i.sum) ∙ ap (times_x (top F) (modulus_tail F)) c.loop-i.invariant)
     (c.element-element.ensures.low_bits ∙ set_bit (c.args.b / 2 ^ (i - 1)) a c.if-b-i-eq1.true)
-    ∙ turn (top F) (modulus_tail F) a c.args.b i c.loop-i-test.true (omega (arith, c.loop-i.auto.i, c.width-i.ensures.bits-of-an-element))
+    ∙ turn (top F) (modulus_tail F) a c.args.b i c.loop-i-test.true (omega (arith, c.loop-i.auto.i, c.width-i.ensures.bits_of_an_element))
 
 pub loop-i-preserved : goal.loop-i-preserved
 loop-i-preserved c =
     let F = c.args.self in
     let a = element F c.args.a in
     let i = c.loop-i.i in
-    sym (xor_zero_r c.times-alpha-sum.result)
-    ∙ ap₂ bit_xor (c.times-alpha-sum.ensures.product-with-alpha ∙ sym (times_alpha F c.loop-i.sum) ∙ ap (times_x (top F) (modulus_tail F)) c.loop-i.invariant)
+    sym (xor_zero_r c.times_alpha-sum.result)
+    ∙ ap₂ bit_xor (c.times_alpha-sum.ensures.product_with_alpha ∙ sym (times_alpha F c.loop-i.sum) ∙ ap (times_x (top F) (modulus_tail F)) c.loop-i.invariant)
     (clear_bit (c.args.b / 2 ^ (i - 1)) a c.if-b-i-eq1.false)
-    ∙ turn (top F) (modulus_tail F) a c.args.b i c.loop-i-test.true (omega (arith, c.loop-i.auto.i, c.width-i.ensures.bits-of-an-element))
+    ∙ turn (top F) (modulus_tail F) a c.args.b i c.loop-i-test.true (omega (arith, c.loop-i.auto.i, c.width-i.ensures.bits_of_an_element))
 
 pub returns : goal.returns
 returns c =
     let F = c.args.self in
-    record { product-of-the-elements = c.loop-i.invariant ∙ end (top F) (modulus_tail F) c.args.a c.args.b c.loop-i.i c.loop-i-test.false }
+    record { product_of_the_elements = c.loop-i.invariant ∙ end (top F) (modulus_tail F) c.args.a c.args.b c.loop-i.i c.loop-i-test.false }

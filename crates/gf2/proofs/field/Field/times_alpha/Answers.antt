@@ -9,10 +9,10 @@ returns-then-a-top-eq1 c =
     let F = c.args.self in
     let a = c.args.a in
     let k = c.width-top.result - 1 in
-    let is : k ≡ top F = omega (arith, c.width-top.ensures.bits-of-an-element) in
+    let is : k ≡ top F = omega (arith, c.width-top.ensures.bits_of_an_element) in
     record {
-      product-with-alpha =
-          times_x_set 16 (top F) (modulus_tail F) a (omega (arith, (widths F).1)) k is c.modulus-tail.result c.modulus-tail.ensures.lower-terms-of-the-modulus c.if-a-top-eq1.true
+      product_with_alpha =
+          times_x_set 16 (top F) (modulus_tail F) a (omega (arith, (widths F).1)) k is c.modulus_tail.result c.modulus_tail.ensures.lower_terms_of_the_modulus c.if-a-top-eq1.true
           ∙ times_alpha F a;
     }
 
@@ -21,5 +21,5 @@ returns-else-a-top-eq1 c =
     let F = c.args.self in
     let a = c.args.a in
     let k = c.width-top.result - 1 in
-    let is : k ≡ top F = omega (arith, c.width-top.ensures.bits-of-an-element) in
-    record { product-with-alpha = times_x_clear 16 (top F) (modulus_tail F) a (omega (arith, (widths F).1)) k is c.if-a-top-eq1.false ∙ times_alpha F a }
+    let is : k ≡ top F = omega (arith, c.width-top.ensures.bits_of_an_element) in
+    record { product_with_alpha = times_x_clear 16 (top F) (modulus_tail F) a (omega (arith, (widths F).1)) k is c.if-a-top-eq1.false ∙ times_alpha F a }
