@@ -1,5 +1,5 @@
 -- The data with its remainder behind it is 0 at every root of the modulus.
-use Rattle.std.proofs.Common.{◌≡◌, ℕ, zero, suc, ◌+◌, ◌-◌, ◌*◌, ◌/◌, ◌%◌, ◌^◌, ◌<◌, Bool, true, false, cond, eqb, List, [], ◌∷◌, ◌++◌, length, sym, refl, ap, ◌∙◌, ap₂, mod-lt, zero-lt-suc, pow-suc, div-one, mul-div_cancel, arith, length-append, pow_pos, shr-shr}
+use Rattle.std.proofs.Common.{◌≡◌, ℕ, zero, suc, ◌+◌, ◌*◌, ◌/◌, ◌%◌, ◌^◌, ◌<◌, Bool, true, false, cond, eqb, List, [], ◌∷◌, ◌++◌, length, sym, refl, ap, ◌∙◌, ap₂, mod-lt, zero-lt-suc, pow-suc, div-one, mul-div_cancel, arith, length-append, pow_pos, shr-shr}
 use native.Mathlib.Nat.{mul-mod_left}
 use lib.Arith.{lt-one}
 use lib.Bits.{bit_xor, xor_comm, xor_assoc, xor_zero_r, xor_self, xor_lt, xor_shr, xor_mod}

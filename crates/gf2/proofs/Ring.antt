@@ -1,5 +1,5 @@
 -- The laws of the product, for every width and modulus.
-use Rattle.std.proofs.Common.{◌≡◌, ℕ, zero, suc, ◌+◌, ◌-◌, ◌*◌, ◌/◌, ◌%◌, ◌^◌, ◌<◌, ◌≤◌, sym, refl, ap, ◌∙◌, subst, ap₂, le_trans, le_refl, add-zero, mod-lt, mod-eq_of_lt, zero-lt-suc, pow-suc, div-add-mod', mul-div_cancel, arith, pow_pos, pow_mono}
+use Rattle.std.proofs.Common.{◌≡◌, ℕ, zero, suc, ◌+◌, ◌*◌, ◌/◌, ◌%◌, ◌^◌, ◌<◌, ◌≤◌, sym, refl, ap, ◌∙◌, subst, ap₂, le_trans, le_refl, add-zero, mod-lt, mod-eq_of_lt, zero-lt-suc, pow-suc, div-add-mod', mul-div_cancel, arith, pow_pos, pow_mono}
 use native.Mathlib.Nat.{div-eq_of_lt, mod-mod, mod_self, div_self, zero-mod, zero-div, mul-mod_left}
 use lib.Arith.{lt-one, digits_div, digits_mod, mod-mul}
 use lib.Pow.{pow-lt, split}

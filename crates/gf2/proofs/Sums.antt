@@ -1,5 +1,5 @@
 -- Sums and weights of words; words as numbers.
-use Rattle.std.proofs.Common.{◌≡◌, ℕ, zero, suc, ◌+◌, ◌-◌, ◌*◌, ◌^◌, ◌<◌, ◌≤◌, Bool, true, false, cond, List, [], ◌∷◌, ◌++◌, length, replicate, sym, refl, ap, ◌∙◌, subst, ap₂, pow-suc, arith, pow_pos}
+use Rattle.std.proofs.Common.{◌≡◌, ℕ, zero, suc, ◌+◌, ◌*◌, ◌^◌, ◌<◌, ◌≤◌, Bool, true, false, cond, List, [], ◌∷◌, ◌++◌, length, replicate, sym, refl, ap, ◌∙◌, subst, ap₂, pow-suc, arith, pow_pos}
 use lib.Bits.{bit_xor, xor_block}
 use Rattle.std.proofs.lemmas.List.{length_push}
 use Rattle.gf2.specs.Words.{plus, add, weight, distance, number, bits_of}

@@ -6,7 +6,6 @@ use Rattle.gf2.specs.Fields.{alpha, top, modulus_tail, product, power, PowersOfA
 use Rattle.gf2.specs.Product.{times_x}
 use Rattle.gf2.specs.declared.field.Field.{Field}
 use Rattle.gf2.proofs.Five.{times_alpha}
-use Rattle.gf2.proofs.PowerLaws as powers
 
 -- the list begins with x, and each entry is alpha times the one before
 unfoldable pub steps : Field → ℕ → List ℕ → Bool

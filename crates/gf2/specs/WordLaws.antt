@@ -1,11 +1,11 @@
 -- What callers may rely on of words and the bits of bytes.
 use Rattle.std.specs.Prelude.{◌≡◌, ℕ, ◌+◌, ◌*◌, ◌^◌, ◌<◌, ◌≤◌, Bool, not, ◌≢◌, List, ◌++◌, length, Some, None}
-use Rattle.std.specs.List.{AllByRecursion as All}
+use Rattle.std.specs.List.{AllByRecursion}
 use Rattle.gf2.specs.Words.{distance, bits, bits_of, bit_number, flipped, number}
 
 -- numbers that are bytes
 abbrev pub Bytes : List ℕ → Type 0
-Bytes = All (λ b. b < 2 ^ 8)
+Bytes = AllByRecursion (λ b. b < 2 ^ 8)
 
 pub record BitsOfBytes : Type 0 where
   pub eight_a_byte : (bs : List ℕ) → length (bits bs) ≡ length bs * 8

@@ -1,6 +1,6 @@
 -- Labels: each bit of a word has a number as its label, and labels are added bit by bit.
 use Rattle.std.specs.Prelude.{◌≡◌, ℕ, zero, suc, ◌^◌, ◌<◌, Bool, cond, not, ◌≢◌, List, [], ◌∷◌, length, Some, None, filter, Option, ◌==◌, bit_xor, count_ones, slice_index}
-use Rattle.std.specs.List.{range_with_len, AllByRecursion as All}
+use Rattle.std.specs.List.{range_with_len, AllByRecursion}
 
 -- the labels of the set bits, added
 unfoldable pub label_sum : List ℕ → List Bool → ℕ
@@ -24,4 +24,4 @@ no_powers_of_two a n = filter (λ m. not (is_power_of_two m)) (range_with_len a 
 -- a place, counted from 0, that has the label, or none where no place has it
 abbrev pub PlaceOf : List ℕ → ℕ → Option ℕ → Type 0
 PlaceOf labels a (Some place) = (place < length labels) × (slice_index labels place ≡ a)
-PlaceOf labels a None = All (λ b. b ≢ a) labels
+PlaceOf labels a None = AllByRecursion (λ b. b ≢ a) labels

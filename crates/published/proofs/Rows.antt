@@ -1,5 +1,5 @@
 -- The rows of the table. A word is read by the one inner codeword near its middle, which is named here by its data bits.
-use Rattle.std.proofs.Common.{◌≡◌, ℕ, ◌+◌, ◌≤◌, Bool, true, false, cond, eqb, List, [], ◌∷◌, ◌++◌, length, take, drop, replicate, Ok, Err, Result, sym, refl, ap, subst, lit≤}
+use Rattle.std.proofs.Common.{◌≡◌, ℕ, ◌≤◌, Bool, true, false, cond, eqb, List, [], ◌∷◌, ◌++◌, length, take, drop, replicate, Ok, Err, Result, sym, refl, ap, subst, lit≤}
 use lib.Count.{ones}
 use Rattle.std.proofs.lemmas.Bool.{eq-eqb}
 use Rattle.wordcode.specs.declared.page.PageReading.TheVariants.{Blank}

@@ -1,7 +1,7 @@
 // The published words, on a function whose contract they are: without their proof the crate fails.
-ghost use Rattle.std.specs.List.{AllByRecursion as All};
+ghost use Rattle.std.specs.List.{AllByRecursion};
 ghost use Rattle.published.specs.Table.{Holds, table};
 
 pub fn published_words()
-    ensures every_row_of_the_table_holds { All Holds table }
+    ensures every_row_of_the_table_holds { AllByRecursion Holds table }
 {}

@@ -70,15 +70,15 @@ fn first_space(bytes: &[u8]) -> usize {
 
 impl Command {
     pub fn named(name: &[u8]) -> Option<Command> {
-        if name == b"encode" {
+        if name == b"encode".as_slice() {
             Some(Command::Encode)
-        } else if name == b"read" {
+        } else if name == b"read".as_slice() {
             Some(Command::Read)
-        } else if name == b"page" {
+        } else if name == b"page".as_slice() {
             Some(Command::Page)
-        } else if name == b"data" {
+        } else if name == b"data".as_slice() {
             Some(Command::Data)
-        } else if name == b"explain" {
+        } else if name == b"explain".as_slice() {
             Some(Command::Explain)
         } else {
             None
@@ -98,11 +98,11 @@ impl Command {
 
 impl Setting {
     pub fn named(name: &[u8]) -> Option<Setting> {
-        if name == b"worked" {
+        if name == b"worked".as_slice() {
             Some(Setting::Worked)
-        } else if name == b"short" {
+        } else if name == b"short".as_slice() {
             Some(Setting::Short)
-        } else if name == b"long" {
+        } else if name == b"long".as_slice() {
             Some(Setting::Long)
         } else {
             None

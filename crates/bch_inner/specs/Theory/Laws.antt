@@ -1,7 +1,7 @@
 -- The codes in use meet the laws of inner codes.
 use Rattle.std.specs.Prelude.{◌≡◌, ℕ, zero, suc, ◌+◌, ◌-◌, ◌*◌, ◌^◌, ◌≤◌, Bool, cond, ◌≢◌, List, [], ◌∷◌, ◌++◌, length, take, drop, bit_xor, refl}
 use Rattle.std.proofs.Common.{sym, ap, ap₂, ◌∙◌, lt_of_not-le, arith, length-drop, length-append, lit<, lit≤}
-use Rattle.std.specs.List.{AllByRecursion as All}
+use Rattle.std.specs.List.{AllByRecursion}
 use Rattle.std.proofs.ByRecursion.{All-append}
 use Rattle.std.proofs.lemmas.List.{append_cancel_left, take_at}
 use Rattle.gf2.specs.declared.field.Field.{Field}
@@ -51,7 +51,7 @@ rest_value m z (suc k) (b ∷ w) (d ∷ x) l e =
 
 -- the word is 0 at every exponent of the orbits
 at_orbits : (F : Field) (w : List Bool) (i : ℕ) → Codeword F i w
-    → All (λ e. word_value (product F) (power F alpha e) w ≡ 0) (orbits (2 ^ width F - 1) (width F) i)
+    → AllByRecursion (λ e. word_value (product F) (power F alpha e) w ≡ 0) (orbits (2 ^ width F - 1) (width F) i)
 unfolding orbits
 at_orbits F w zero z = tt
 at_orbits F w (suc i) z =

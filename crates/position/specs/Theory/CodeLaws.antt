@@ -2,7 +2,7 @@
 use Rattle.std.specs.Prelude.{◌≡◌, ℕ, ◌+◌, ◌*◌, ◌^◌, ◌<◌, ◌≤◌, Bool, ◌≢◌, List, ◌++◌, length, bit_xor}
 use Rattle.std.proofs.Common.{sym, ap, ap₂, ◌∙◌, lt_of_not-le, arith, length-append}
 use Rattle.std.specs.Int.Bits.{xor_self}
-use Rattle.std.specs.List.{AllByRecursion as All}
+use Rattle.std.specs.List.{AllByRecursion}
 use Rattle.gf2.specs.Words.{add, distance, number, bits_of}
 use Rattle.gf2.proofs.Sums.{add_length, bits_of_length}
 use Rattle.gf2.proofs.Digits.{bits_of_number, number_bits_of}
@@ -13,7 +13,7 @@ use Rattle.position.specs.Labels.{label_sum, powers_of_two}
 use Rattle.position.specs.Code.{all_labels, Codeword, checks_of}
 use Rattle.position.specs.Theory.LabelSums.{sum_add, sum_with_checks, powers_length, sum_lt, Apart, sum_two}
 
-module _ (k1 r1 : ℕ) (labels : List ℕ) (long : length labels ≡ k1) (below : All (λ a. a < 2 ^ r1) labels) (apart : Apart (all_labels r1 labels)) where
+module _ (k1 r1 : ℕ) (labels : List ℕ) (long : length labels ≡ k1) (below : AllByRecursion (λ a. a < 2 ^ r1) labels) (apart : Apart (all_labels r1 labels)) where
   labels_length : length (all_labels r1 labels) ≡ k1 + r1
   labels_length = omega (arith, length-append labels (powers_of_two r1), powers_length r1)
 

@@ -3,7 +3,7 @@ use Rattle.std.specs.Prelude.{◌≡◌, ℕ, zero, suc, ◌+◌, ◌*◌, ◌^�
 use Rattle.std.proofs.Common.{sym, ap, ap₂, ◌∙◌, arith, pow_pos}
 use Rattle.std.specs.Int.Bits.{xor_assoc, xor_self, xor_zero_r, xor_shifted}
 use Rattle.std.proofs.lemmas.Nat.{xor_lt}
-use Rattle.std.specs.List.{AllByRecursion as All}
+use Rattle.std.specs.List.{AllByRecursion}
 use Rattle.gf2.specs.Words.{plus, add, weight, number}
 use Rattle.gf2.proofs.Ring.{xor4}
 use Rattle.gf2.proofs.Sums.{number_lt}
@@ -52,7 +52,7 @@ unfolding powers_of_two
 powers_length zero = refl
 powers_length (suc r) = ap suc (powers_length r)
 
-pub sum_lt : (r : ℕ) (ls : List ℕ) (w : List Bool) → All (λ a. a < 2 ^ r) ls → label_sum ls w < 2 ^ r
+pub sum_lt : (r : ℕ) (ls : List ℕ) (w : List Bool) → AllByRecursion (λ a. a < 2 ^ r) ls → label_sum ls w < 2 ^ r
 unfolding label_sum
 sum_lt r [] w h = pow_pos r
 sum_lt r (a ∷ ls) [] h = pow_pos r
@@ -62,7 +62,7 @@ sum_lt r (a ∷ ls) (false ∷ w) h = sum_lt r ls w h.1
 -- labels that differ from one another and from 0
 abbrev pub Apart : List ℕ → Type 0
 Apart [] = Unit {0}
-Apart (a ∷ ls) = (a ≢ 0) × All (λ b. b ≢ a) ls × Apart ls
+Apart (a ∷ ls) = (a ≢ 0) × AllByRecursion (λ b. b ≢ a) ls × Apart ls
 
 sum_none : (ls : List ℕ) (w : List Bool) → weight w ≡ 0 → label_sum ls w ≡ 0
 unfolding label_sum
@@ -72,7 +72,7 @@ sum_none (a ∷ ls) (true ∷ w) h = absurd (omega arith)
 sum_none (a ∷ ls) (false ∷ w) h = sum_none ls w h
 
 -- one set bit at most has a label or 0 as its sum
-pub sum_one : (a : ℕ) (ls : List ℕ) (w : List Bool) → a ≢ 0 → All (λ b. b ≢ a) ls → weight w ≤ 1 → label_sum ls w ≢ a
+pub sum_one : (a : ℕ) (ls : List ℕ) (w : List Bool) → a ≢ 0 → AllByRecursion (λ b. b ≢ a) ls → weight w ≤ 1 → label_sum ls w ≢ a
 unfolding label_sum
 sum_one a [] w z o h e = z (sym e)
 sum_one a (b ∷ ls) [] z o h e = z (sym e)

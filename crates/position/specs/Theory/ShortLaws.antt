@@ -2,7 +2,7 @@
 use Rattle.std.specs.Prelude.{◌≡◌, ℕ, ◌^◌, ◌<◌, Bool, true, false, T, ◌≢◌, List, [], ◌∷◌, length, ◌==◌, nat_lt, refl}
 use Rattle.std.proofs.Common.{sym, lit<, lit≤}
 use Rattle.std.specs.Int.Count.{ones, ones_in}
-use Rattle.std.specs.List.{AllByRecursion as All}
+use Rattle.std.specs.List.{AllByRecursion}
 use Rattle.std.proofs.lemmas.Bool.{eqb-false, ltb-true}
 use Rattle.gf2.specs.declared.field.Field.TheVariants.{Eight}
 use Rattle.inner.specs.Code.{IsInnerCode, Setting}
@@ -16,12 +16,12 @@ unfoldable pub all_below : ℕ → List ℕ → Bool
 all_below n [] = true
 all_below n (a ∷ ls) = elim (nat_lt a n) [ true ↦ all_below n ls | false ↦ false ]
 
-pub below : (n : ℕ) (ls : List ℕ) → T (all_below n ls) → All (λ a. a < n) ls
+pub below : (n : ℕ) (ls : List ℕ) → T (all_below n ls) → AllByRecursion (λ a. a < n) ls
 unfolding all_below
 below n [] t = tt
 below n (a ∷ ls) t = go (nat_lt a n) refl t (below n ls)
   where
-    go : (b : Bool) → nat_lt a n ≡ b → T (elim b [ true ↦ all_below n ls | false ↦ false ]) → (T (all_below n ls) → All (λ a. a < n) ls) → (a < n) × All (λ a. a < n) ls
+    go : (b : Bool) → nat_lt a n ≡ b → T (elim b [ true ↦ all_below n ls | false ↦ false ]) → (T (all_below n ls) → AllByRecursion (λ a. a < n) ls) → (a < n) × AllByRecursion (λ a. a < n) ls
     go true e t rest = (ltb-true a n e, rest t)
     go false e t rest = absurd t
 
@@ -30,12 +30,12 @@ unfoldable pub none_is : ℕ → List ℕ → Bool
 none_is a [] = true
 none_is a (b ∷ ls) = elim (b == a) [ true ↦ false | false ↦ none_is a ls ]
 
-pub others : (a : ℕ) (ls : List ℕ) → T (none_is a ls) → All (λ b. b ≢ a) ls
+pub others : (a : ℕ) (ls : List ℕ) → T (none_is a ls) → AllByRecursion (λ b. b ≢ a) ls
 unfolding none_is
 others a [] t = tt
 others a (b ∷ ls) t = go (b == a) refl t (others a ls)
   where
-    go : (q : Bool) → (b == a) ≡ q → T (elim q [ true ↦ false | false ↦ none_is a ls ]) → (T (none_is a ls) → All (λ b. b ≢ a) ls) → (b ≢ a) × All (λ b. b ≢ a) ls
+    go : (q : Bool) → (b == a) ≡ q → T (elim q [ true ↦ false | false ↦ none_is a ls ]) → (T (none_is a ls) → AllByRecursion (λ b. b ≢ a) ls) → (b ≢ a) × AllByRecursion (λ b. b ≢ a) ls
     go true e t rest = absurd t
     go false e t rest = (eqb-false b a e, rest t)
 
@@ -49,7 +49,7 @@ unfolding differ
 apart [] t = tt
 apart (a ∷ ls) t = go (none_is a (0 ∷ ls)) (others a (0 ∷ ls)) t (apart ls)
   where
-    go : (q : Bool) → (T q → All (λ b. b ≢ a) (0 ∷ ls)) → T (elim q [ true ↦ differ ls | false ↦ false ]) → (T (differ ls) → Apart ls) → (a ≢ 0) × All (λ b. b ≢ a) ls × Apart ls
+    go : (q : Bool) → (T q → AllByRecursion (λ b. b ≢ a) (0 ∷ ls)) → T (elim q [ true ↦ differ ls | false ↦ false ]) → (T (differ ls) → Apart ls) → (a ≢ 0) × AllByRecursion (λ b. b ≢ a) ls × Apart ls
     go true h t rest = let o = h tt in (λ e. o.0 (sym e), o.1, rest t)
     go false h t rest = absurd t
 

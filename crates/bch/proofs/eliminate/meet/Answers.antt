@@ -1,6 +1,6 @@
-use Rattle.std.proofs.Common.{◌≡◌, ℕ, ◌-◌, List, [], length, get_or, take, sym, refl, ap, ◌∙◌, arith}
+use Rattle.std.proofs.Common.{◌≡◌, ℕ, List, [], length, get_or, take, sym, refl, ap, ◌∙◌, arith}
 use Rattle.gf2.specs.Fields.{product}
-use Rattle.bch.specs.Elimination.{against, met_one, sequence}
+use Rattle.bch.specs.Elimination.{met_one, sequence}
 use Rattle.bch.specs.Decoding.{inverse_or_0}
 use Rattle.bch.proofs.Rows as rows
 use Rattle.bch.proofs.eliminate.meet.Goals as goal

@@ -1,4 +1,4 @@
-use Rattle.std.proofs.Common.{◌≡◌, ◌+◌, ◌-◌, ◌++◌, take, drop}
+use Rattle.std.proofs.Common.{◌≡◌, ◌-◌, ◌++◌, take, drop}
 use Rattle.gf2.specs.Fields.{product}
 use Rattle.bch.specs.Elimination.{met_one, sequence}
 use Rattle.bch.specs.Decoding.{inverse_or_0}

@@ -1,4 +1,4 @@
-use Rattle.std.proofs.Common.{◌+◌, ◌-◌, ◌∙◌, ap₂, arith}
+use Rattle.std.proofs.Common.{◌+◌, ◌∙◌, ap₂, arith}
 use lib.Bits.{bit_xor}
 use Rattle.gf2.specs.Fields.{product}
 use Rattle.bch_inner.specs.Elimination.{sequence}

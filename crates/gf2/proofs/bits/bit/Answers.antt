@@ -1,4 +1,4 @@
-use Rattle.std.proofs.Common.{◌≡◌, suc, ◌-◌, Some, sym, ap, ◌∙◌, arith}
+use Rattle.std.proofs.Common.{◌≡◌, suc, Some, sym, ap, ◌∙◌, arith}
 use Rattle.gf2.specs.Words.{bits, bit_number}
 use Rattle.gf2.proofs.Numbered.{bit_number_zero, bit_number_at, bit_number_past, inside_bytes, past_bytes}
 use Rattle.gf2.proofs.bits.bit.Goals as goal

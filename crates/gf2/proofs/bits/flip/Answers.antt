@@ -1,4 +1,4 @@
-use Rattle.std.proofs.Common.{◌-◌, Bool, List, sym, ap, ◌∙◌}
+use Rattle.std.proofs.Common.{Bool, List, sym, ap, ◌∙◌}
 use Rattle.gf2.specs.Words.{bits, bit_number}
 use Rattle.gf2.proofs.Numbered.{flipped_none, flipped_bit, flipped_at_number, within}
 use Rattle.gf2.proofs.bits.flip.Goals as goal
