@@ -1,4 +1,4 @@
--- Powers, sums of powers and polynomials under a product mul of elements of m bits; sums are bitXor.
+-- Powers, sums of powers and polynomials under a product mul of elements of m bits; sums are bit_xor.
 use Rattle.std.specs.Prelude.{◌≡◌, ℕ, zero, suc, ◌+◌, ◌^◌, ◌<◌, ◌≤◌, ◌≢◌, List, [], ◌∷◌, length, bit_xor}
 use Rattle.std.specs.List.{AllByRecursion}
 

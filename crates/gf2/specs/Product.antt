@@ -1,5 +1,5 @@
 -- Polynomials over the two elements 0 and 1, modulo x^(n+1) + p, as numbers: bit i of a number is the coefficient of x^i.
--- An element is a number below 2^(n+1), and the sum of two is bitXor.
+-- An element is a number below 2^(n+1), and the sum of two is bit_xor.
 use Rattle.std.specs.Prelude.{ℕ, zero, suc, ◌*◌, ◌/◌, ◌%◌, ◌^◌, bit_xor}
 
 -- a where the bit is set, else 0

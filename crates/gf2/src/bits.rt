@@ -1,5 +1,5 @@
 // Bits of bytes, numbered from 1, the most significant of each byte first.
-ghost use Rattle.std.specs.Prelude.{◌≡◌, ◌+◌, ◌-◌, ◌/◌, ◌%◌, ◌^◌, ◌<◌, ◌≤◌, false, length, set, nat_le, slice_index, slice_index_or, slice_set};
+ghost use Rattle.std.specs.Prelude.{◌≡◌, ◌+◌, ◌-◌, ◌/◌, ◌%◌, ◌^◌, ◌<◌, ◌≤◌, false, length, nat_le, slice_index, slice_index_or, slice_set};
 ghost use Rattle.gf2.specs.Words.{bits, bit_number, flipped, weight as weight_of, byte_distance, number_behind, bits_of, with_run, room_for, with_number};
 
 // The bit at a place of a byte, counted from 0, the most significant first; the place counts modulo 8.
