@@ -7,13 +7,18 @@ ghost use Rattle.pagecode.specs.InnerData.{each, data_fits, with_inner_data};
 use gf2::bits::{holds, is_set, put};
 use gf2::field::Field;
 
-// Copies the bits behind the first one.
+// Copies the bits behind the first one: whole bytes, then the bits that are left.
+#[tactic(auto, using(gf2::proofs::Places::bits_length))]
 fn copy_behind_first(message: &[u8], count: usize, out: &mut [u8])
     requires message_has_them { count + 1 ≤ length (bits message.now) }
     requires out_has_room { count ≤ length (bits out.old) }
     ensures copied { bits out.new ≡ take count (drop 1 (bits message.now)) ++ drop count (bits out.old) }
 {
-    for at in 0..count {
+    let whole = count / 8;
+    for i in 0..whole {
+        out[i] = (message[i] << 1) | (message[i + 1] >> 7);
+    }
+    for at in 8 * whole..count {
         put(out, at, is_set(message, at + 1));
     }
 }

@@ -13,8 +13,8 @@ use Rattle.bch_inner.specs.Codes.{WorkedCodeword, worked_checks}
 use Rattle.bch_inner.specs.Theory.Laws.{worked_inner_code, worked_setting}
 use Rattle.position.specs.Labels.{label_sum, no_powers_of_two}
 use Rattle.position.specs.Short.{data_labels, short_checks}
-use Rattle.wordcode.specs.Groups.{groups, sum_of_products}
-use Rattle.wordcode.specs.InnerData.{lead, each}
+use Rattle.pagecode.specs.Groups.{groups, sum_of_products}
+use Rattle.pagecode.specs.InnerData.{lead, each}
 use Rattle.wordcode.specs.Codeword.{f_bits}
 use Rattle.wordcode.specs.Reading.{Answer, gives, unreadable, middle, last_bits, Reads}
 use Rattle.wordcode.specs.Settling.{settled}

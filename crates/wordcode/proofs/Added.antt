@@ -2,7 +2,7 @@
 use Rattle.std.proofs.Common.{◌≡◌, ℕ, zero, suc, ◌+◌, ◌<◌, ◌≤◌, Bool, true, false, List, [], ◌∷◌, ◌++◌, length, replicate, sym, refl, ap, ◌∙◌, ap₂, arith}
 use Rattle.gf2.specs.Words.{plus, add, weight}
 use Rattle.gf2.proofs.Sums.{plus_comm, plus_assoc, plus_back, plus_zero}
-use Rattle.wordcode.specs.InnerData.{lead, each}
+use Rattle.pagecode.specs.InnerData.{lead, each}
 
 plus_four : (a b c d : Bool) → plus (plus a b) (plus c d) ≡ plus (plus a c) (plus b d)
 plus_four a b c d =

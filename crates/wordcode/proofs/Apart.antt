@@ -10,7 +10,7 @@ use Rattle.gf2.proofs.Sums.{plus_comm, plus_back, add_self, triangle}
 use Rattle.inner.specs.Code.{IsInnerCode, Setting}
 use Rattle.inner.specs.Nearest.{Near}
 use Rattle.inner.specs.Pages.{word_bits}
-use Rattle.wordcode.specs.InnerData.{lead, each}
+use Rattle.pagecode.specs.InnerData.{lead, each}
 use Rattle.wordcode.specs.Codeword.{f_bits, inner, laid_out, codeword}
 use Rattle.wordcode.specs.Reading.{middle, last_bits, Within, Matches, Answer, gives, unreadable, Reads}
 use Rattle.wordcode.specs.Settling.{message_of, settled}

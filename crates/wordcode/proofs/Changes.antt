@@ -10,8 +10,8 @@ use Rattle.gf2.specs.Polynomials.{Element}
 use Rattle.gf2.proofs.Five.{ring, field}
 use Rattle.gf2.proofs.Ring.{◌⊕◌, xor4}
 use Rattle.gf2.proofs.Vandermonde.{dist_l}
-use Rattle.wordcode.specs.Groups.{sum_of_products}
-use Rattle.wordcode.proofs.Pairs.{double, sum_lt}
+use Rattle.pagecode.specs.Groups.{sum_of_products}
+use Rattle.pagecode.proofs.Pairs.{double, sum_lt}
 
 xor_cancel : (a b : ℕ) → (a ⊕ b) ⊕ b ≡ a
 xor_cancel a b = xor_assoc a b b ∙ ap (bit_xor a) (xor_self b) ∙ xor_zero_r a

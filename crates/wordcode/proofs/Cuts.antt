@@ -10,11 +10,11 @@ use Rattle.gf2.specs.Fields.{top, width, product}
 use Rattle.gf2.specs.Polynomials.{Element}
 use Rattle.gf2.proofs.Sums.{add_length, weight_append, weight_zeros, number_lt, number_add, number_zeros, bits_of_length}
 use Rattle.gf2.proofs.Digits.{bits_of_xor, bits_of_number, number_bits_of, number_inj}
-use Rattle.wordcode.specs.Groups.{groups, sum_of_products}
-use Rattle.wordcode.specs.InnerData.{lead}
+use Rattle.pagecode.specs.Groups.{groups, sum_of_products}
+use Rattle.pagecode.specs.InnerData.{lead}
 use Rattle.wordcode.specs.Codeword.{f_bits}
 use Rattle.wordcode.specs.Flips.{filled, ExactlyOne}
-use Rattle.wordcode.proofs.Pairs.{double}
+use Rattle.pagecode.proofs.Pairs.{double}
 use Rattle.wordcode.proofs.Added.{lead_length, lead_back, lead_append}
 use Rattle.wordcode.proofs.Changes.{change, change_lt, FreeGroup, free_group}
 

@@ -5,10 +5,10 @@ use Rattle.std.proofs.lemmas.Bool.{le-leb}
 use Rattle.gf2.specs.declared.field.Field.{Field}
 use Rattle.inner.specs.Code.{IsInnerCode}
 use Rattle.inner.specs.Checks.{with_checks}
-use Rattle.wordcode.specs.InnerData.{lead, each, inner_data, with_inner_data}
+use Rattle.pagecode.specs.InnerData.{lead, each, inner_data, with_inner_data}
 use Rattle.wordcode.specs.Codeword.{f_bits, codeword}
 use Rattle.wordcode.proofs.Added.{lead_length, lead_back, lead_append}
-use Rattle.wordcode.proofs.Copies.{fits}
+use Rattle.pagecode.proofs.Copies.{fits}
 
 -- the bits of a message written over the first ones
 pub inner_data_first : (k : ℕ) (M O : List Bool) → k + 1 ≤ length M → k ≤ length O → with_inner_data M k O ≡ inner_data (take (k + 1) M) ++ drop k O

@@ -9,12 +9,12 @@ use Rattle.gf2.specs.Fields.{top, width}
 use Rattle.gf2.proofs.Sums.{add_comm, add_length, add_back, add_append, add_self, add_zeros, weight_zeros, weight_ones, no_weight}
 use Rattle.inner.specs.Code.{IsInnerCode, Setting}
 use Rattle.inner.specs.Pages.{word_bits}
-use Rattle.wordcode.specs.InnerData.{lead, each}
+use Rattle.pagecode.specs.InnerData.{lead, each}
 use Rattle.wordcode.specs.Codeword.{f_bits, inner, laid_out, codeword}
 use Rattle.wordcode.specs.Reading.{middle, last_bits}
 use Rattle.wordcode.specs.Settling.{message_of}
 use Rattle.wordcode.specs.Flips.{Passes, first_two_and_last, filled, ExactlyOne, FlipLaw}
-use Rattle.wordcode.proofs.Pairs.{double, pairs_are}
+use Rattle.pagecode.proofs.Pairs.{double, pairs_are}
 use Rattle.wordcode.proofs.Added.{lead_length, lead_back, each_length, each_zeros}
 use Rattle.wordcode.proofs.LaidOut.{laid_out_length, laid_out_add, laid_out_parts, laid_out_is, laid_out_plain, middle_length, last_length}
 use Rattle.wordcode.proofs.InnerWords.{at_width, f_length, inner_data_length, inner_is_a_codeword, inner_length, data_length, data_and_checks}

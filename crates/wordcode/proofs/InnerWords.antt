@@ -8,8 +8,8 @@ use Rattle.gf2.specs.Words.{distance}
 use Rattle.gf2.specs.Fields.{width}
 use Rattle.gf2.proofs.Sums.{triangle, bits_of_length}
 use Rattle.inner.specs.Code.{IsInnerCode, Setting}
-use Rattle.wordcode.specs.Groups.{f}
-use Rattle.wordcode.specs.InnerData.{inner_data}
+use Rattle.pagecode.specs.Groups.{f}
+use Rattle.pagecode.specs.InnerData.{inner_data}
 use Rattle.wordcode.specs.Codeword.{f_bits, inner}
 use Rattle.wordcode.proofs.Added.{lead_length}
 

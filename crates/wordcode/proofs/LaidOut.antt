@@ -3,7 +3,7 @@ use Rattle.std.proofs.Common.{◌≡◌, ℕ, zero, suc, ◌+◌, ◌<◌, ◌�
 use Rattle.std.proofs.lemmas.List.{length-append, length-take-le, length-drop, take-append-drop, take_at, drop_at}
 use Rattle.gf2.specs.Words.{plus, add, weight, distance}
 use Rattle.gf2.proofs.Sums.{add_append, weight_append, weight_zeros, weight_ones}
-use Rattle.wordcode.specs.InnerData.{lead, each}
+use Rattle.pagecode.specs.InnerData.{lead, each}
 use Rattle.wordcode.specs.Codeword.{laid_out}
 use Rattle.wordcode.specs.Reading.{middle, last_bits}
 use Rattle.wordcode.proofs.Added.{lead_length, lead_back, lead_none, lead_add, lead_weight, each_length, each_back, each_none, each_add, each_zeros}

@@ -7,7 +7,7 @@ use Rattle.gf2.specs.Words.{add, weight, number, bits_of, number_behind}
 use Rattle.gf2.proofs.Sums.{number_lt}
 use Rattle.gf2.proofs.Digits.{bits_of_xor, bits_of_number}
 use Rattle.gf2.proofs.Weights.{weight_bits_of}
-use Rattle.wordcode.specs.InnerData.{each}
+use Rattle.pagecode.specs.InnerData.{each}
 use Rattle.wordcode.proofs.Added.{each_none, each_add}
 use Rattle.gf2.proofs.Sums.{plus_zero}
 

@@ -1,5 +1,3 @@
-pub mod Pairs
-pub mod Copies
 pub mod Padding
 pub mod Added
 pub mod LaidOut
@@ -16,4 +14,3 @@ pub mod WordRead
 pub mod Changes
 pub mod Cuts
 pub mod Flips
-pub mod Bytewise

@@ -9,7 +9,7 @@ use Rattle.gf2.proofs.WordLaws.{distance_is_a_metric}
 use Rattle.inner.specs.Code.{IsInnerCode, Setting}
 use Rattle.inner.specs.Nearest.{Near}
 use Rattle.inner.specs.Pages.{word_bits}
-use Rattle.wordcode.specs.InnerData.{lead, each}
+use Rattle.pagecode.specs.InnerData.{lead, each}
 use Rattle.wordcode.specs.Codeword.{f_bits, inner, laid_out, codeword}
 use Rattle.wordcode.specs.Reading.{middle, last_bits, Within, Answer, gives, unreadable, Reads}
 use Rattle.wordcode.specs.Settling.{message_of, choice, answer_with, settled}

@@ -7,7 +7,7 @@ use Rattle.gf2.specs.Words.{add, weight, distance}
 use Rattle.inner.specs.Pages.{word_bits}
 use Rattle.inner.specs.Code.{IsInnerCode, Setting}
 use Rattle.inner.specs.Nearest.{Near}
-use Rattle.wordcode.specs.InnerData.{lead, each, inner_data, with_inner_data}
+use Rattle.pagecode.specs.InnerData.{lead, each, inner_data, with_inner_data}
 use Rattle.wordcode.specs.Codeword.{f_bits}
 use Rattle.wordcode.specs.Reading.{middle, last_bits, unreadable, Reads}
 use Rattle.wordcode.specs.Settling.{chosen, answer_with, settled}

@@ -4,8 +4,8 @@ use Rattle.std.specs.Prelude.{Bool, List, [], ◌∷◌, ◌++◌}
 use Rattle.gf2.specs.declared.field.Field.{Field}
 use Rattle.gf2.specs.Words.{bits_of}
 use Rattle.gf2.specs.Fields.{width}
-use Rattle.wordcode.specs.Groups.{f}
-use Rattle.wordcode.specs.InnerData.{lead, each, inner_data}
+use Rattle.pagecode.specs.Groups.{f}
+use Rattle.pagecode.specs.InnerData.{lead, each, inner_data}
 
 -- f as r2 bits
 abbrev pub f_bits : Field → List Bool → List Bool

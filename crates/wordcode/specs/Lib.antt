@@ -1,6 +1,3 @@
-pub mod Groups
-pub mod GroupLaws
-pub mod InnerData
 pub mod Codeword
 pub mod Reading
 pub mod Settling

@@ -2,7 +2,7 @@
 use Rattle.std.specs.Prelude.{◌≡◌, ℕ, ◌+◌, ◌≤◌, Bool, true, false, List, [], ◌∷◌, length, take, drop}
 use Rattle.gf2.specs.declared.field.Field.{Field}
 use Rattle.gf2.specs.Words.{distance}
-use Rattle.wordcode.specs.InnerData.{lead}
+use Rattle.pagecode.specs.InnerData.{lead}
 use Rattle.wordcode.specs.Codeword.{inner, codeword}
 
 -- y

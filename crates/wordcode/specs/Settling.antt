@@ -1,7 +1,7 @@
 -- The answer that follows from the one inner codeword near y: it is the v of two messages, one for each u.
 use Rattle.std.specs.Prelude.{ℕ, ◌+◌, ◌-◌, Bool, true, false, cond, not, List, ◌∷◌, Some, None, Option, ◌==◌, nat_le}
 use Rattle.wordcode.specs.declared.settle.Choice.{Choice}
-use Rattle.wordcode.specs.InnerData.{lead}
+use Rattle.pagecode.specs.InnerData.{lead}
 use Rattle.wordcode.specs.Reading.{Answer, gives, unreadable}
 
 -- the message of u and the data bits d of v

@@ -3,12 +3,12 @@ ghost use Rattle.std.specs.Prelude.{◌≡◌, ◌*◌, ◌%◌, ◌^◌, ◌<�
 ghost use Rattle.gf2.specs.declared.field.Field.{Field as FieldOf};
 ghost use Rattle.gf2.specs.Words.{bits, bits_of};
 ghost use Rattle.gf2.specs.Fields.{width as width_of, field_of};
-ghost use Rattle.wordcode.specs.InnerData.{each};
+ghost use Rattle.pagecode.specs.InnerData.{each};
 ghost use Rattle.wordcode.specs.Codeword.{f_bits};
 
-use crate::message::with_added;
-use crate::nonlinear::nonlinear_bits;
 use gf2::field::Field;
+use pagecode::message::with_added;
+use pagecode::nonlinear::nonlinear_bits;
 
 // The last bits of the codeword with that u whose inner codeword begins with the first `count` bits.
 pub(crate) fn last_bits(inner: &[u8], count: usize, width: u32, u: bool) -> u16
@@ -18,5 +18,5 @@ pub(crate) fn last_bits(inner: &[u8], count: usize, width: u32, u: bool) -> u16
     let Some(field) = Field::of_width(width) else {
         return 0;
     };
-    with_added(field, nonlinear_bits(field, inner, count).unwrap_or(0), u)
+    with_added(field, nonlinear_bits(inner, count, width).unwrap_or(0), u)
 }

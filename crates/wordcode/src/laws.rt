@@ -1,15 +1,9 @@
 // Theorems of the page code, each on a function whose contract it is: without its proof the crate fails.
-ghost use Rattle.gf2.specs.declared.field.Field.{Field};
-ghost use Rattle.wordcode.specs.GroupLaws.{SumOverPairs};
 ghost use Rattle.wordcode.specs.WordLaws.{WordLaws};
 ghost use Rattle.wordcode.specs.Flips.{FlipLaw};
 ghost use Rattle.wordcode.specs.Page.{PageLaws};
 
 use inner::code::InnerCode;
-
-pub fn laws_of_f()
-    ensures f_is_the_sum_over_the_pairs_of_groups { (F : Field) → SumOverPairs F }
-{}
 
 pub fn laws_of_words<
     C: InnerCode<K1, R1, T, R2>,

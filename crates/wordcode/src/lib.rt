@@ -3,13 +3,9 @@
 
 mod last;
 pub mod laws;
-pub mod message;
-pub mod nonlinear;
 pub mod page;
 pub mod refusal;
 mod runs;
 mod settle;
 pub mod sizes;
-#[cfg(test)]
-mod tests;
 pub mod word;

@@ -3,7 +3,7 @@ ghost use Rattle.std.specs.Prelude.{◌≡◌, ◌+◌, ◌-◌, ◌*◌, ◌%�
 ghost use Rattle.gf2.specs.declared.field.Field.{Field as FieldOf};
 ghost use Rattle.gf2.specs.Words.{bits, add, weight};
 ghost use Rattle.gf2.specs.Fields.{width as width_of, field_of};
-ghost use Rattle.wordcode.specs.InnerData.{each};
+ghost use Rattle.pagecode.specs.InnerData.{each};
 ghost use Rattle.wordcode.specs.Codeword.{f_bits};
 ghost use Rattle.wordcode.specs.Refusals.{told};
 ghost use Rattle.wordcode.specs.Bytes.{padded};

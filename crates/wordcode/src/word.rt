@@ -8,12 +8,12 @@ ghost use Rattle.wordcode.specs.Bytes.{checked, spare_clear, padded};
 ghost use Rattle.wordcode.specs.Encoding.{Written, ReadByTheRules};
 
 use crate::last::last_bits;
-use crate::message::inner_data;
 use crate::refusal::Refusal;
 use crate::runs::{copy_and_clear, copy_run, spare_bits_clear};
 use crate::settle::{last_bits_apart, settle, turned_distance};
 use gf2::bits::{is_set, put_number};
 use inner::code::InnerCode;
+use pagecode::message::inner_data;
 
 // A word read: the distance to the codeword whose message was given, and whether that codeword was found by rule 2, over the bound of t bits.
 #[derive(Clone, Copy, PartialEq, Eq, Debug)]

@@ -3,9 +3,9 @@ use crate::show::{Bits, Element, Hex};
 use anyhow::anyhow;
 use gf2::bits::{is_set, number};
 use gf2::field::Field;
+use pagecode::message::with_added;
+use pagecode::nonlinear::nonlinear_bits;
 use std::io::Write;
-use wordcode::message::with_added;
-use wordcode::nonlinear::nonlinear_bits;
 
 // The group with that number, counted from 0; past the end it is 0.
 fn group(data: &[u8], index: usize, field: Field) -> u16 {
@@ -69,7 +69,7 @@ pub fn explain<W: Write>(
     print_bits(out, "v_k", inner, count)?;
     print_bits(out, "v", inner, inner_bits)?;
     print_groups(out, inner, count / (2 * width as usize), field)?;
-    let Some(sum) = nonlinear_bits(field, inner, count) else {
+    let Ok(sum) = nonlinear_bits(inner, count, width) else {
         return Err(anyhow!("the message is no run of pairs of groups"));
     };
     let f = Element { value: sum, width };

@@ -6,7 +6,7 @@ use Rattle.gf2.specs.Words.{bits, number}
 use Rattle.gf2.specs.Fields.{width}
 use Rattle.gf2.proofs.Sums.{bits_of_length}
 use Rattle.gf2.proofs.Five.{widths, field_of_width}
-use Rattle.wordcode.specs.Groups.{f}
+use Rattle.pagecode.specs.Groups.{f}
 use Rattle.wordcode.specs.Codeword.{f_bits}
 use Rattle.wordcode.proofs.LastBits.{number_there, counted}
 use Rattle.wordcode.proofs.settle.last_bits_apart.Goals as goal

@@ -4,7 +4,7 @@ use Rattle.gf2.specs.Fields.{width, field_of}
 use Rattle.gf2.proofs.Places.{bits_length}
 use Rattle.inner.specs.Pages.{word_bits, bytes_for}
 use Rattle.inner.specs.Checks.{with_checks}
-use Rattle.wordcode.specs.InnerData.{each, with_inner_data}
+use Rattle.pagecode.specs.InnerData.{each, with_inner_data}
 use Rattle.wordcode.specs.Codeword.{f_bits}
 use Rattle.wordcode.specs.Bytes.{checked, padded}
 use Rattle.wordcode.proofs.Passed.{Passed, passed}

@@ -8,7 +8,7 @@ use Rattle.gf2.proofs.Places.{bits_length}
 use Rattle.gf2.proofs.Five.{field_of_its_width}
 use Rattle.inner.specs.Pages.{word_bits}
 use Rattle.inner.specs.Nearest.{Corrected, LeftAlone}
-use Rattle.wordcode.specs.InnerData.{each, with_inner_data}
+use Rattle.pagecode.specs.InnerData.{each, with_inner_data}
 use Rattle.wordcode.specs.Codeword.{f_bits}
 use Rattle.wordcode.specs.declared.word.Reading.{Reading}
 use Rattle.wordcode.specs.Refusals.{told}

@@ -6,7 +6,7 @@ use Rattle.std.proofs.lemmas.List.{length-take-le}
 use Rattle.gf2.specs.Words.{bits_of, bits, with_run}
 use Rattle.gf2.proofs.Sums.{bits_of_length}
 use Rattle.gf2.proofs.Places.{bits_append, bits_take, bits_drop}
-use Rattle.gf2.proofs.Overwriting.{pasted}
+use Rattle.pagecode.proofs.Copies.{pasted}
 
 -- a byte that is set
 pub byte_set : (bs : List ℕ) (i v : ℕ) → i < length bs → bits (set bs i v) ≡ with_run (i * 8) (bits_of 8 v) (bits bs)
