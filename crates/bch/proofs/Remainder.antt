@@ -1,11 +1,17 @@
 -- The data with its remainder behind it is 0 at every root of the modulus.
-use Rattle.std.proofs.Common.{◌≡◌, ℕ, zero, suc, ◌+◌, ◌*◌, ◌/◌, ◌%◌, ◌^◌, ◌<◌, Bool, true, false, cond, eqb, List, [], ◌∷◌, ◌++◌, length, sym, refl, ap, ◌∙◌, ap₂, mod-lt, zero-lt-suc, pow-suc, div-one, mul-div_cancel, arith, length-append, pow_pos, shr-shr}
-use native.Mathlib.Nat.{mul-mod_left}
-use lib.Arith.{lt-one}
-use lib.Bits.{bit_xor, xor_comm, xor_assoc, xor_zero_r, xor_self, xor_lt, xor_shr, xor_mod}
+use Rattle.std.specs.Prelude.{◌≡◌, ℕ, zero, suc, ◌+◌, ◌*◌, ◌/◌, ◌%◌, ◌^◌, ◌<◌, Bool, true, false, cond, List, [], ◌∷◌, ◌++◌, length, ◌==◌, bit_xor, nat_eq}
+use Rattle.std.proofs.Math.Path.{refl, sym, ap, ap₂}
+use Rattle.std.proofs.Common.{◌∙◌, mod-lt, mul-div_cancel, zero-lt-suc, pow-suc, div-one, length-append, shr-shr}
+use Rattle.std.proofs.Math.Nat.{mul-mod_left}
+use native.Mathlib.Omega.{arith}
+use Rattle.std.proofs.Math.Arith.{lt-one}
+use Rattle.std.proofs.Math.Pow.{pow_pos}
+use Rattle.std.proofs.lemmas.Nat.{xor_comm, xor_shr, xor_mod}
+use Rattle.std.specs.Int.Bits.{xor_assoc, xor_zero_r, xor_self, xor_lt}
 use Rattle.gf2.specs.Product.{times_x, if_set}
 use Rattle.gf2.specs.Polynomials.{power}
-use Rattle.gf2.specs.Words.{bits_of}
+use Rattle.gf2.specs.Words.{bits_of, number}
+use Rattle.gf2.proofs.Digits.{bits_of_number}
 use Rattle.gf2.proofs.Sums.{bits_of_length}
 use Rattle.bch.specs.Checks.{running, remainder}
 use Rattle.bch.specs.Code.{word_value}
@@ -18,6 +24,20 @@ use Rattle.gf2.proofs.PowerLaws as powers
 unfoldable pub digits_value : (ℕ → ℕ → ℕ) → ℕ → ℕ → ℕ → ℕ
 digits_value m z zero r = 0
 digits_value m z (suc k) r = bit_xor (m z (digits_value m z k (r / 2))) (if_set (r % 2) 1)
+
+-- the remainder fits its bits
+module _ (n g : ℕ) (hg : g < 2 ^ suc n) where
+  cond_lt : (b : Bool) → cond b g 0 < 2 ^ suc n
+  cond_lt true = hg
+  cond_lt false = pow_pos (suc n)
+
+  next_lt : (b : Bool) (r : ℕ) → times_x n g r ⊕ cond b g 0 < 2 ^ suc n
+  next_lt b r = xor_lt (suc n) (times_x n g r) (cond b g 0) (ring.times_x_lt n g hg r) (cond_lt b)
+
+  pub remainder_lt : (d : List Bool) (r : ℕ) → r < 2 ^ suc n → remainder n g r d < 2 ^ suc n
+  unfolding running
+  remainder_lt [] r h = h
+  remainder_lt (b ∷ bs) r h = remainder_lt bs (times_x n g r ⊕ cond b g 0) (next_lt b r)
 
 module _ (k : ℕ) (m : ℕ → ℕ → ℕ) (F : IsField k m) (z : ℕ) where
   open F use {nontrivial, no_zero_divisors}
@@ -50,20 +70,20 @@ module _ (k : ℕ) (m : ℕ → ℕ → ℕ) (F : IsField k m) (z : ℕ) where
   digits_value_top (suc i) = ap (digits_value m z (suc (suc i))) (pow-suc 2 i) ∙ digits_value_double (suc i) (2 ^ i) ∙ ap (m z) (digits_value_top i) ∙ unfold power in refl
 
   -- the top digit apart
-  digits_value_split : (i r : ℕ) → digits_value m z (suc i) r ≡ cond (eqb (r / 2 ^ i % 2) 1) (power m z i) 0 ⊕ digits_value m z i r
+  digits_value_split : (i r : ℕ) → digits_value m z (suc i) r ≡ cond (r / 2 ^ i % 2 == 1) (power m z i) 0 ⊕ digits_value m z i r
   unfolding digits_value power
   digits_value_split zero r =
-      ap (λ (y : ℕ). y ⊕ if_set (r % 2) 1) (zero_product z) ∙ digit (r % 2) (dig r) ∙ ap (λ (y : ℕ). cond (eqb (y % 2) 1) 1 0 ⊕ 0) (sym (div-one r))
+      ap (λ (y : ℕ). y ⊕ if_set (r % 2) 1) (zero_product z) ∙ digit (r % 2) (dig r) ∙ ap (λ (y : ℕ). cond (y % 2 == 1) 1 0 ⊕ 0) (sym (div-one r))
     where
-      digit : (d : ℕ) → d < 2 → if_set d 1 ≡ cond (eqb d 1) 1 0 ⊕ 0
+      digit : (d : ℕ) → d < 2 → if_set d 1 ≡ cond (d == 1) 1 0 ⊕ 0
       digit zero h = refl
       digit (suc zero) h = refl
       digit (suc (suc d)) h = absurd (omega arith)
   digits_value_split (suc i) r =
-      let B = eqb (r / 2 / 2 ^ i % 2) 1 in
+      let B = nat_eq (r / 2 / 2 ^ i % 2) 1 in
       ap (λ (y : ℕ). y ⊕ if_set (r % 2) 1) (ap (m z) (digits_value_split i (r / 2)) ∙ distributive z (cond B (power m z i) 0) (digits_value m z i (r / 2)) ∙ ap (λ (y : ℕ). y ⊕ m z (digits_value m z i (r / 2))) (push B))
       ∙ xor_assoc (cond B (m z (power m z i)) 0) (m z (digits_value m z i (r / 2))) (if_set (r % 2) 1)
-      ∙ ap (λ (y : ℕ). cond (eqb (y % 2) 1) (m z (power m z i)) 0 ⊕ (m z (digits_value m z i (r / 2)) ⊕ if_set (r % 2) 1))
+      ∙ ap (λ (y : ℕ). cond (y % 2 == 1) (m z (power m z i)) 0 ⊕ (m z (digits_value m z i (r / 2)) ⊕ if_set (r % 2) 1))
       (shr-shr r 1 i ∙ ap (λ (j : ℕ). r / 2 ^ j) (let e : 1 + i ≡ suc i = omega arith in e))
     where
       push : (b : Bool) → m z (cond b (power m z i) 0) ≡ cond b (m z (power m z i)) 0
@@ -93,18 +113,9 @@ module _ (k : ℕ) (m : ℕ → ℕ → ℕ) (F : IsField k m) (z : ℕ) where
         high : power m z (suc n) ≡ m z (digits_value m z (suc n) (2 ^ n))
         high = unfold power in ap (m z) (sym (digits_value_top n))
 
-    cond_lt : (b : Bool) → cond b g 0 < 2 ^ suc n
-    cond_lt true = hg
-    cond_lt false = pow_pos (suc n)
-
     digits_value_cond : (b : Bool) → digits_value m z (suc n) (cond b g 0) ≡ cond b (power m z (suc n)) 0
     digits_value_cond true = root
     digits_value_cond false = digits_value_zero (suc n)
-
-    remainder_lt : (d : List Bool) (r : ℕ) → r < 2 ^ suc n → remainder n g r d < 2 ^ suc n
-    unfolding running
-    remainder_lt [] r h = h
-    remainder_lt (b ∷ bs) r h = remainder_lt bs (times_x n g r ⊕ cond b g 0) (xor_lt (suc n) (times_x n g r) (cond b g 0) (ring.times_x_lt n g hg r) (cond_lt b))
 
     digits_value_lt : (i r : ℕ) → digits_value m z i r < 2 ^ k
     unfolding digits_value
@@ -131,7 +142,7 @@ module _ (k : ℕ) (m : ℕ → ℕ → ℕ) (F : IsField k m) (z : ℕ) where
         let V = digits_value m z (suc n) r in
         let W = word_value m z bs in
         let r' = times_x n g r ⊕ cond b g 0 in
-        remainder_value bs r' (xor_lt (suc n) (times_x n g r) (cond b g 0) (ring.times_x_lt n g hg r) (cond_lt b))
+        remainder_value bs r' (next_lt n g hg b r)
         ∙ ap (λ (y : ℕ). m P y ⊕ m Q W) (digits_value_add (suc n) (times_x n g r) (cond b g 0) ∙ ap₂ bit_xor (digits_value_times_x r h) (digits_value_cond b))
         ∙ ap (λ (y : ℕ). y ⊕ m Q W)
         (distributive P (m z V) (cond b Q 0) ∙ ap₂ bit_xor (sym (associative P z V) ∙ ap (λ (y : ℕ). m y V) (commutative P z)) (turn b P Q))
@@ -156,14 +167,27 @@ module _ (k : ℕ) (m : ℕ → ℕ → ℕ) (F : IsField k m) (z : ℕ) where
     unfolding word_value bits_of
     bits_value zero r = unfold digits_value in refl
     bits_value (suc i) r =
-        ap₂ (λ (j y : ℕ). cond (eqb (r / 2 ^ i % 2) 1) (power m z j) 0 ⊕ y) (bits_of_length i r) (bits_value i r) ∙ sym (digits_value_split i r)
+        ap₂ (λ (j y : ℕ). cond (r / 2 ^ i % 2 == 1) (power m z j) 0 ⊕ y) (bits_of_length i r) (bits_value i r) ∙ sym (digits_value_split i r)
+
+    remainder_from_0 : (d : List Bool) → digits_value m z (suc n) (remainder n g 0 d) ≡ m (power m z (suc n)) (word_value m z d)
+    remainder_from_0 d =
+        let X = m (power m z (suc n)) (word_value m z d) in
+        remainder_value d 0 (pow_pos (suc n)) ∙ ap (λ (y : ℕ). m (power m z (length d)) y ⊕ X) (digits_value_zero (suc n))
+        ∙ ap (λ (y : ℕ). y ⊕ X) (zero_product (power m z (length d)))
+
+    -- d and p have the value of the remainder of d added to p
+    pub reduced : (d p : List Bool) → length p ≡ suc n → word_value m z (bits_of (suc n) (remainder n g 0 d ⊕ number p)) ≡ word_value m z (d ++ p)
+    reduced d p l =
+        let R = remainder n g 0 d in
+        bits_value (suc n) (R ⊕ number p) ∙ digits_value_add (suc n) R (number p)
+        ∙ ap₂ bit_xor (remainder_from_0 d)
+        (sym (bits_value (suc n) (number p)) ∙ ap (word_value m z) (ap (λ (i : ℕ). bits_of i (number p)) (sym l) ∙ bits_of_number p))
+        ∙ ap (λ (i : ℕ). m (power m z i) (word_value m z d) ⊕ word_value m z p) (sym l)
+        ∙ sym (word_value_append d p)
 
     pub encoded : (d : List Bool) → word_value m z (d ++ bits_of (suc n) (remainder n g 0 d)) ≡ 0
     encoded d =
         let R = remainder n g 0 d in
-        let X = m (power m z (suc n)) (word_value m z d) in
         word_value_append d (bits_of (suc n) R)
-        ∙ ap₂ (λ (i y : ℕ). m (power m z i) (word_value m z d) ⊕ y) (bits_of_length (suc n) R)
-        (bits_value (suc n) R ∙ remainder_value d 0 (pow_pos (suc n)) ∙ ap (λ (y : ℕ). m (power m z (length d)) y ⊕ X) (digits_value_zero (suc n))
-        ∙ ap (λ (y : ℕ). y ⊕ X) (zero_product (power m z (length d))))
-        ∙ xor_self X
+        ∙ ap₂ (λ (i y : ℕ). m (power m z i) (word_value m z d) ⊕ y) (bits_of_length (suc n) R) (bits_value (suc n) R ∙ remainder_from_0 d)
+        ∙ xor_self (m (power m z (suc n)) (word_value m z d))

@@ -15,7 +15,8 @@ use Rattle.gf2.proofs.Ring.{◌⊕◌, xor4}
 use Rattle.gf2.proofs.Sums.{bits_of_length}
 use Rattle.bch_inner.specs.declared.code.Bch.{Bch}
 use Rattle.bch_inner.specs.declared.code.Bch.TheVariants.{Worked, Long}
-use Rattle.bch_inner.specs.Checks.{running, remainder, RemaindersOfBytes}
+use Rattle.bch.specs.Checks.{running, remainder}
+use Rattle.bch_inner.specs.Checks.{RemaindersOfBytes}
 use Rattle.bch_inner.specs.Settings.{generator_top, generator_tail, check_bits}
 use Rattle.bch_inner.specs.Theory.Tested.{tested}
 

@@ -10,17 +10,17 @@ use Rattle.gf2.proofs.Vandermonde as v
 use Rattle.gf2.proofs.WordLaws.{distance_is_a_metric}
 use Rattle.inner.specs.Nearest.{Near, Corrected, LeftAlone}
 use Rattle.bch_inner.specs.declared.code.Bch.{Bch}
-use Rattle.bch_inner.specs.Code.{syndrome}
+use Rattle.bch.specs.Code.{syndrome}
 use Rattle.bch_inner.specs.Settings.{field, errors, inner_bits, WordOf}
-use Rattle.bch_inner.specs.Elimination.{met_all, sequence, unit_rows}
-use Rattle.bch_inner.specs.Decoding.{all_vanish, inverse_or_0, root_at, root_marks}
-use Rattle.bch_inner.specs.Theory.Distance.{locator_sum}
-use Rattle.bch_inner.specs.Theory.Points as points
-use Rattle.bch_inner.specs.Theory.Tested.{tested}
-use Rattle.bch_inner.proofs.Decoder as decoder
-use Rattle.bch_inner.proofs.Flips.{marks_ext, marks_length}
-use Rattle.bch_inner.proofs.Padded.{same_roots}
-use Rattle.bch_inner.proofs.AnyPoints.{units, flips}
+use Rattle.bch.specs.Elimination.{met_all, sequence, unit_rows}
+use Rattle.bch.specs.Decoding.{all_vanish, inverse_or_0, root_at, root_marks}
+use Rattle.bch.proofs.AnyPoints.{locator_sum}
+use Rattle.bch.proofs.Points as points
+use Rattle.bch_inner.specs.Theory.Tested.{tested, whole}
+use Rattle.bch.proofs.Decoder as decoder
+use Rattle.bch.proofs.Flips.{marks_ext, marks_length}
+use Rattle.bch.proofs.Padded.{same_roots}
+use Rattle.bch.proofs.AnyPoints.{units, flips}
 
 -- the marks are the decoder's flips
 flips_are : (F : Field) (t : ℕ) → t < 6 → (s : List ℕ) (r : List Bool) → ((j : ℕ) → 1 ≤ j → j ≤ t + t → sequence s j ≡ syndrome F r j)
@@ -96,7 +96,7 @@ module _ (C : Bch) (before : List Bool) (s : List ℕ) (ps : List (List ℕ)) (e
       ap (root_marks F ps) (sym long)
       ∙ flips_are F (errors C) (tested C).few s (take (inner_bits C) before) agree ps solved
       ∙ decoder.finds (width F) (product F) (five.field F) (inverse_or_0 F) (points.inverts F) (power F alpha) (points.count F) (points.points F) (points.apart F)
-      (errors C) (take (inner_bits C) before) c (omega (arith, long, (tested C).short)) (q.code.long ∙ sym long)
+      (errors C) (take (inner_bits C) before) c (omega (arith, long, (tested C).short)) (q.code.long ∙ whole C ∙ sym long)
       (λ j a b. points.sum_is_syndrome F c j ∙ q.code.code j a b) q.near
 
   -- flipped once more, where the outcome is no codeword at most t bits away
@@ -116,5 +116,5 @@ module _ (C : Bch) (before : List Bool) (s : List ℕ) (ps : List (List ℕ)) (e
   not_a_codeword outside last e = record {
     same = again last e;
     none = λ h c q. outside (subst (WordOf C)
-        (sym (front ∙ ap (add (take (inner_bits C) before)) (leads c q) ∙ add_back (take (inner_bits C) before) c (long ∙ sym q.code.long))) q.code);
+        (sym (front ∙ ap (add (take (inner_bits C) before)) (leads c q) ∙ add_back (take (inner_bits C) before) c (long ∙ sym (q.code.long ∙ whole C)))) q.code);
   }

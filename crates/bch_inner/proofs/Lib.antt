@@ -1,10 +1,3 @@
-pub mod Kept
-pub mod AnyPoints
-pub mod Kernel
-pub mod Decoder
-pub mod Rows
-pub mod Padded
-pub mod Flips
 pub mod Correcting
 pub mod Runs
 pub mod Rest

@@ -6,11 +6,11 @@ use Rattle.gf2.specs.Words.{bits_of, number}
 use Rattle.gf2.proofs.Digits.{bits_of_number, number_bits_of}
 use Rattle.gf2.proofs.Vandermonde.{xor_eq}
 use Rattle.bch_inner.specs.declared.code.Bch.{Bch}
-use Rattle.bch_inner.specs.Code.{syndrome}
+use Rattle.bch.specs.Code.{syndrome}
 use Rattle.bch_inner.specs.Settings.{field, errors, data_bits, check_bits, inner_bits, generator_top, generator_tail, checks_number, checks, WordOf, rest}
-use Rattle.bch_inner.specs.Theory.Generator as generator
+use Rattle.bch.proofs.Generator as generator
 use Rattle.bch_inner.specs.Theory.Laws.{inner_code}
-use Rattle.bch_inner.specs.Theory.Remainder.{remainder_lt}
+use Rattle.bch.proofs.Remainder.{remainder_lt}
 use Rattle.bch_inner.specs.Theory.Tested.{tested}
 
 module _ (C : Bch) (w : List Bool) (enough : inner_bits C ≤ length w) where

@@ -2,7 +2,7 @@
 use Rattle.std.proofs.Common.{◌≡◌, ℕ, ◌+◌, ◌<◌, Bool, false, cond, List, [], ◌∷◌, ◌++◌, length, get_or, take, sym, refl, ap, ◌∙◌}
 use lib.Bits.{bit_xor}
 use Rattle.std.proofs.lemmas.List.{take_more}
-use Rattle.bch_inner.specs.Checks.{running}
+use Rattle.bch.specs.Checks.{running}
 
 module _ (step : ℕ → ℕ) (e : ℕ) where
   -- over one word and then another

@@ -8,8 +8,9 @@ use Rattle.gf2.specs.Fields.{alpha, sum, product, power, width}
 use Rattle.gf2.specs.Polynomials.{power as power_under}
 use Rattle.gf2.proofs.Five as five
 use Rattle.gf2.proofs.PowerLaws as powers
-use Rattle.bch_inner.specs.Elimination.{against, sequence}
-use Rattle.bch_inner.specs.Decoding.{TermsAt, all_vanish}
+use Rattle.bch.specs.Elimination.{against, sequence}
+use Rattle.bch.specs.Decoding.{all_vanish}
+use Rattle.bch_inner.specs.Decoding.{TermsAt}
 
 -- six numbers of which the first k have become f of what they were
 abbrev pub Changed : (ℕ → ℕ → ℕ) → List ℕ → ℕ → List ℕ → Type 0

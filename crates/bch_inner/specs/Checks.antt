@@ -1,16 +1,7 @@
--- The check bits: the remainder of the data's polynomial times x^(n+1) by x^(n+1) + g, kept as a number.
-use Rattle.std.specs.Prelude.{◌≡◌, ℕ, ◌<◌, Bool, cond, List, [], ◌∷◌, length, bit_xor, slice_index}
-use Rattle.gf2.specs.Product.{times_x}
+-- Tables by which a remainder is taken a byte at a time.
+use Rattle.std.specs.Prelude.{◌≡◌, ℕ, ◌<◌, List, length, slice_index}
 use Rattle.gf2.specs.Words.{bits_of}
-
--- a value s that takes a step at each bit, and has e added where the bit is set
-unfoldable pub running : (ℕ → ℕ) → ℕ → ℕ → List Bool → ℕ
-running step e s [] = s
-running step e s (b ∷ bs) = running step e (bit_xor (step s) (cond b e 0)) bs
-
--- the bits brought into the remainder r
-abbrev pub remainder : ℕ → ℕ → ℕ → List Bool → ℕ
-remainder n g r = running (times_x n g) g r
+use Rattle.bch.specs.Checks.{remainder}
 
 -- a table of the remainders of all bytes
 pub record RemaindersOfBytes (n g : ℕ) (table : List ℕ) : Type 0 where

@@ -1,5 +1,3 @@
-pub mod Code
-pub mod Elimination
 pub mod Decoding
 pub mod Checks
 pub mod Settings

@@ -1,52 +1,52 @@
--- The BCH codes in use: their fields, the bits t that they correct, their lengths and generators.
-use Rattle.std.specs.Prelude.{◌≡◌, ℕ, suc, ◌+◌, Bool, List, length, take, drop, bit_xor}
+-- The BCH codes in use, each as the crate bch defines it: its field, the bits t that it corrects, its lengths and its generator.
+use Rattle.std.specs.Prelude.{ℕ, ◌+◌, Bool, List, take, drop, bit_xor}
 use Rattle.gf2.specs.declared.field.Field.{Field}
-use Rattle.gf2.specs.declared.field.Field.TheVariants.{Five, Fourteen}
 use Rattle.gf2.specs.Words.{bits_of, number}
+use Rattle.bch.specs.declared.code.Bch.{Bch as Code}
+use Rattle.bch.specs.declared.code.Bch.TheVariants as codes
+use Rattle.bch.specs.InnerLaws as laws
+use Rattle.bch.specs.Settings as settings
 use Rattle.bch_inner.specs.declared.code.Bch.{Bch}
 use Rattle.bch_inner.specs.declared.code.Bch.TheVariants.{Worked, Long}
-use Rattle.bch_inner.specs.Code.{Codeword}
-use Rattle.bch_inner.specs.Checks.{remainder}
+
+-- the code as the crate bch names it
+abbrev pub code_of : Bch → Code
+code_of Worked = codes.Worked
+code_of Long = codes.Long
 
 abbrev pub field : Bch → Field
-field Worked = Five
-field Long = Fourteen
+field C = settings.field (code_of C)
 
 -- t: as many wrong bits are corrected
 abbrev pub errors : Bch → ℕ
-errors Worked = 2
-errors Long = 5
+errors C = settings.errors (code_of C)
 
 -- k1, the data bits of a word
 abbrev pub data_bits : Bch → ℕ
-data_bits Worked = 18
-data_bits Long = 8200
+data_bits C = settings.data_bits (code_of C)
 
 -- r1 - 1: the generator has the degree r1, the number of check bits
 abbrev pub generator_top : Bch → ℕ
-generator_top Worked = 9
-generator_top Long = 69
+generator_top C = settings.generator_top (code_of C)
 
 -- the generator without x^r1
 abbrev pub generator_tail : Bch → ℕ
-generator_tail Worked = 0b11_0110_1001
-generator_tail Long = 0xE_8FD4_F615_5365_4087
+generator_tail C = settings.generator_tail (code_of C)
 
 abbrev pub check_bits : Bch → ℕ
-check_bits C = suc (generator_top C)
+check_bits C = settings.check_bits (code_of C)
 
 -- n1, the bits of a word
 abbrev pub inner_bits : Bch → ℕ
 inner_bits C = data_bits C + check_bits C
 
 -- a codeword of the code's length
-pub record WordOf (C : Bch) (w : List Bool) : Type 0 where
-  pub long : length w ≡ inner_bits C
-  pub code : Codeword (field C) (errors C) w
+abbrev pub WordOf : Bch → List Bool → Type 0
+WordOf C = laws.WordOf (code_of C)
 
 -- the remainder of x^r1 times the polynomial of the data by the generator, as a number
 abbrev pub checks_number : Bch → List Bool → ℕ
-checks_number C = remainder (generator_top C) (generator_tail C) 0
+checks_number C = settings.checks_number (code_of C)
 
 -- the check bits of the data
 abbrev pub checks : Bch → List Bool → List Bool

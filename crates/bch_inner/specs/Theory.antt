@@ -1,11 +1,3 @@
 -- The proof that the codes meet the laws of inner codes.
-pub mod Zeros
-pub mod Orbits
-pub mod Distance
-pub mod Points
-pub mod Horner
-pub mod Unique
-pub mod Remainder
-pub mod Generator
 pub mod Tested
 pub mod Laws

@@ -1,8 +1,9 @@
 // The polynomials that meet the equations of the syndromes, by elimination.
 ghost use Rattle.std.specs.Prelude.{◌≡◌, ℕ, ◌+◌, ◌-◌, ◌<◌, ◌≤◌, [], ◌++◌, length, take, drop, slice_index_or};
 ghost use Rattle.gf2.specs.Fields.{product, power};
-ghost use Rattle.bch_inner.specs.Elimination.{against as sum_against, add_scaled, cleared, met_one, met_all, sequence, unit_rows};
-ghost use Rattle.bch_inner.specs.Decoding.{TermsAt, all_vanish, inverse_or_0};
+ghost use Rattle.bch.specs.Elimination.{against as sum_against, add_scaled, cleared, met_one, met_all, sequence, unit_rows};
+ghost use Rattle.bch.specs.Decoding.{all_vanish, inverse_or_0};
+ghost use Rattle.bch_inner.specs.Decoding.{TermsAt};
 
 use gf2::field::Field;
 

@@ -3,7 +3,8 @@ ghost use Rattle.std.specs.Prelude.{◌≡◌, ◌+◌, ◌^◌, ◌<◌, ◌≤
 ghost use Rattle.gf2.specs.Words.{bits, bits_of, number as number_of};
 ghost use Rattle.gf2.specs.Product.{times_x};
 ghost use Rattle.inner.specs.Checks.{room_for_checks, with_checks};
-ghost use Rattle.bch_inner.specs.Checks.{remainder as remainder_from, RemaindersOfBytes};
+ghost use Rattle.bch.specs.Checks.{remainder as remainder_from};
+ghost use Rattle.bch_inner.specs.Checks.{RemaindersOfBytes};
 ghost use Rattle.bch_inner.specs.Settings.{data_bits, check_bits, inner_bits, generator_top, generator_tail, checks_number, checks, rest as rest_of};
 
 use crate::code::Bch;

@@ -2,8 +2,9 @@
 ghost use Rattle.std.specs.Prelude.{◌≡◌, ℕ, ◌<◌, ◌≤◌, length, take};
 ghost use Rattle.gf2.specs.Words.{bits, add, weight};
 ghost use Rattle.gf2.specs.Fields.{alpha, product, power};
-ghost use Rattle.bch_inner.specs.Elimination.{sequence};
-ghost use Rattle.bch_inner.specs.Decoding.{TermsAt, root_marks};
+ghost use Rattle.bch.specs.Elimination.{sequence};
+ghost use Rattle.bch.specs.Decoding.{root_marks};
+ghost use Rattle.bch_inner.specs.Decoding.{TermsAt};
 
 use crate::eliminate::Survivors;
 use crate::syndrome::times_power;

@@ -3,7 +3,7 @@ ghost use Rattle.std.specs.Prelude.{◌≡◌, ℕ, ◌+◌, ◌<◌, ◌≤◌,
 ghost use Rattle.gf2.specs.Fields.{alpha, product, power};
 ghost use Rattle.gf2.specs.Product.{times_x};
 ghost use Rattle.gf2.specs.Words.{bits_of};
-ghost use Rattle.bch_inner.specs.Code.{syndrome as syndrome_of};
+ghost use Rattle.bch.specs.Code.{syndrome as syndrome_of};
 
 use gf2::field::Field;
 

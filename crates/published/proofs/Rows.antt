@@ -8,7 +8,7 @@ use Rattle.std.specs.List.{AllByRecursion as All}
 use Rattle.gf2.specs.declared.field.Field.TheVariants.{Three, Eight}
 use Rattle.gf2.specs.Words.{add, weight, distance, bits, bits_of}
 use Rattle.gf2.specs.Product.{times_x, sum_of_shifts, times}
-use Rattle.bch_inner.specs.Checks.{running}
+use Rattle.bch.specs.Checks.{running}
 use Rattle.bch_inner.specs.Codes.{WorkedCodeword, worked_checks}
 use Rattle.bch_inner.specs.Theory.Laws.{worked_inner_code, worked_setting}
 use Rattle.position.specs.Labels.{label_sum, no_powers_of_two}

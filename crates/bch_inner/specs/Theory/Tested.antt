@@ -1,16 +1,27 @@
--- What holds of the codes in use: each fact is one computed test.
-use Rattle.std.specs.Prelude.{◌≡◌, ◌+◌, ◌-◌, ◌^◌, ◌<◌, ◌≤◌, T, length, refl}
-use Rattle.std.proofs.Common.{lit<, lit≤}
-use Rattle.gf2.specs.Product.{times_x, sum_of_shifts, times}
-use Rattle.gf2.specs.Polynomials.{power as power_under}
+-- What holds of the codes in use, by the tests of the crate bch.
+use Rattle.std.specs.Prelude.{◌≡◌, ℕ, ◌+◌, ◌-◌, ◌^◌, ◌<◌, ◌≤◌, T, refl}
+use Rattle.std.proofs.Common.{subst, lit≤}
 use Rattle.gf2.specs.Fields.{width}
+use Rattle.bch.specs.Decoding.{zeros}
+use Rattle.bch.specs.Settings.{word_bits}
+use Rattle.bch.proofs.Generator.{generator_value}
+use Rattle.bch.proofs.Settings as settings
 use Rattle.bch_inner.specs.declared.code.Bch.{Bch}
 use Rattle.bch_inner.specs.declared.code.Bch.TheVariants.{Worked, Long}
-use Rattle.bch_inner.specs.Theory.Zeros.{zeros}
-use Rattle.bch_inner.specs.Theory.Remainder.{digits_value}
-use Rattle.bch_inner.specs.Theory.Orbits.{twice, not_in, differ, orbits}
-use Rattle.bch_inner.specs.Settings.{field, errors, inner_bits, generator_top, generator_tail, check_bits}
-use Rattle.bch_inner.specs.Theory.Generator.{generator_value}
+use Rattle.bch_inner.specs.Settings.{code_of, field, errors, inner_bits, generator_top, generator_tail, check_bits}
+
+-- a word is data bits and check bits
+pub whole : (C : Bch) → word_bits (code_of C) ≡ inner_bits C
+whole Worked = refl
+whole Long = refl
+
+some : (C : Bch) → 1 ≤ errors C
+some Worked = lit≤ tt
+some Long = lit≤ tt
+
+near : (C : Bch) → inner_bits C ≤ 65536
+near Worked = lit≤ tt
+near Long = lit≤ tt
 
 pub record Tested (C : Bch) : Type 0 where
   pub some : 1 ≤ errors C
@@ -21,11 +32,16 @@ pub record Tested (C : Bch) : Type 0 where
   pub tail : generator_tail C < 2 ^ check_bits C
   -- the generator is 0 at alpha^1 to alpha^(2t)
   pub roots : T (zeros (generator_value (field C) (generator_top C) (generator_tail C)) 1 (errors C + errors C))
-  -- the exponents of its roots, as many as its degree, are distinct
-  pub apart : T (differ (2 ^ width (field C) - 1) (orbits (2 ^ width (field C) - 1) (width (field C)) (errors C)))
-  pub all : length (orbits (2 ^ width (field C) - 1) (width (field C)) (errors C)) ≡ check_bits C
 
 pub tested : (C : Bch) → Tested C
-unfolding zeros digits_value power_under times sum_of_shifts times_x orbits twice differ not_in
-tested Worked = record { some = lit≤ tt; few = lit< tt; short = lit≤ tt; near = lit≤ tt; small = lit< tt; tail = lit< tt; roots = tt; apart = tt; all = refl }
-tested Long = record { some = lit≤ tt; few = lit< tt; short = lit≤ tt; near = lit≤ tt; small = lit< tt; tail = lit< tt; roots = tt; apart = tt; all = refl }
+tested C =
+    let test = settings.tested (code_of C) in
+    record {
+      some = some C;
+      few = test.few;
+      short = subst (λ (n : ℕ). n ≤ 2 ^ width (field C) - 1) (whole C) test.short;
+      near = near C;
+      small = test.small;
+      tail = test.tail;
+      roots = test.roots;
+    }

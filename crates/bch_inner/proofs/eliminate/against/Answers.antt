@@ -1,8 +1,8 @@
 use Rattle.std.proofs.Common.{◌+◌, ◌∙◌, ap₂, arith}
 use lib.Bits.{bit_xor}
 use Rattle.gf2.specs.Fields.{product}
-use Rattle.bch_inner.specs.Elimination.{sequence}
-use Rattle.bch_inner.proofs.Rows as rows
+use Rattle.bch.specs.Elimination.{sequence}
+use Rattle.bch.proofs.Rows as rows
 use Rattle.bch_inner.proofs.eliminate.against.Goals as goal
 
 pub loop-k-init : goal.loop-k-init

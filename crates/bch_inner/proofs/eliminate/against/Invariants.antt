@@ -1,6 +1,6 @@
 use Rattle.std.proofs.Common.{◌≡◌, ◌+◌, drop}
 use Rattle.gf2.specs.Fields.{product}
-use Rattle.bch_inner.specs.Elimination.{against, sequence}
+use Rattle.bch.specs.Elimination.{against, sequence}
 use Rattle.bch_inner.proofs.eliminate.against.Given as goal
 
 abbrev pub invariant-loop-k : goal.invariant-loop-k

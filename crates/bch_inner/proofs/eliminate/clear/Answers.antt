@@ -1,9 +1,9 @@
 use Rattle.std.proofs.Common.{◌≡◌, ℕ, ◌+◌, ◌-◌, [], ◌++◌, get_or, take, drop, Option, unwrap_or, refl, ap, ◌∙◌, ap₂, arith}
 use Rattle.std.proofs.lemmas.List.{length-set}
 use Rattle.gf2.specs.Fields.{product}
-use Rattle.bch_inner.specs.Elimination.{against, add_scaled, cleared, sequence}
-use Rattle.bch_inner.specs.Decoding.{inverse_or_0}
-use Rattle.bch_inner.proofs.Rows as rows
+use Rattle.bch.specs.Elimination.{against, add_scaled, cleared, sequence}
+use Rattle.bch.specs.Decoding.{inverse_or_0}
+use Rattle.bch.proofs.Rows as rows
 use Rattle.bch_inner.proofs.eliminate.clear.Goals as goal
 
 pub loop-k-preserved : goal.loop-k-preserved

@@ -1,7 +1,7 @@
 use Rattle.std.proofs.Common.{◌≡◌, ◌+◌, ◌-◌, ◌++◌, length, take, drop}
 use Rattle.gf2.specs.Fields.{product}
-use Rattle.bch_inner.specs.Elimination.{cleared, sequence}
-use Rattle.bch_inner.specs.Decoding.{inverse_or_0}
+use Rattle.bch.specs.Elimination.{cleared, sequence}
+use Rattle.bch.specs.Decoding.{inverse_or_0}
 use Rattle.bch_inner.proofs.eliminate.clear.Given as goal
 
 abbrev pub invariant-loop-k : goal.invariant-loop-k

@@ -2,8 +2,8 @@ use Rattle.std.proofs.Common.{◌≡◌, ℕ, ◌+◌, ◌++◌, get_or, take, d
 use lib.Bits.{bit_xor}
 use Rattle.std.proofs.lemmas.List.{length-set}
 use Rattle.gf2.specs.Fields.{product}
-use Rattle.bch_inner.specs.Elimination.{add_scaled}
-use Rattle.bch_inner.proofs.Rows as rows
+use Rattle.bch.specs.Elimination.{add_scaled}
+use Rattle.bch.proofs.Rows as rows
 use Rattle.bch_inner.proofs.eliminate.combined.Goals as goal
 
 pub loop-k-preserved : goal.loop-k-preserved

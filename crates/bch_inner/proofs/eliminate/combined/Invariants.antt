@@ -1,6 +1,6 @@
 use Rattle.std.proofs.Common.{◌≡◌, ◌++◌, length, take, drop}
 use Rattle.gf2.specs.Fields.{product}
-use Rattle.bch_inner.specs.Elimination.{add_scaled}
+use Rattle.bch.specs.Elimination.{add_scaled}
 use Rattle.bch_inner.proofs.eliminate.combined.Given as goal
 
 abbrev pub invariant-loop-k : goal.invariant-loop-k

@@ -1,8 +1,8 @@
 use Rattle.std.proofs.Common.{◌≡◌, ℕ, List, [], length, get_or, take, sym, refl, ap, ◌∙◌, arith}
 use Rattle.gf2.specs.Fields.{product}
-use Rattle.bch_inner.specs.Elimination.{met_one, sequence}
-use Rattle.bch_inner.specs.Decoding.{inverse_or_0}
-use Rattle.bch_inner.proofs.Rows as rows
+use Rattle.bch.specs.Elimination.{met_one, sequence}
+use Rattle.bch.specs.Decoding.{inverse_or_0}
+use Rattle.bch.proofs.Rows as rows
 use Rattle.bch_inner.proofs.eliminate.meet.Goals as goal
 
 pub returns-then-against-ne0 : goal.returns-then-against-ne0

@@ -1,7 +1,7 @@
 use Rattle.std.proofs.Common.{◌≡◌, ◌-◌, ◌++◌, take, drop}
 use Rattle.gf2.specs.Fields.{product}
-use Rattle.bch_inner.specs.Elimination.{met_one, sequence}
-use Rattle.bch_inner.specs.Decoding.{inverse_or_0}
+use Rattle.bch.specs.Elimination.{met_one, sequence}
+use Rattle.bch.specs.Decoding.{inverse_or_0}
 use Rattle.bch_inner.proofs.eliminate.meet.Given as goal
 
 abbrev pub invariant-loop-j : goal.invariant-loop-j

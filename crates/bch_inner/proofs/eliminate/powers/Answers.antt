@@ -2,7 +2,7 @@ use Rattle.std.proofs.Common.{◌≡◌, ℕ, zero, suc, ◌-◌, ◌<◌, ◌�
 use Rattle.std.proofs.lemmas.List.{length-set, get_or-set_same, get_or-set_other}
 use Rattle.gf2.specs.Fields.{product}
 use Rattle.gf2.specs.Polynomials.{power}
-use Rattle.bch_inner.specs.Elimination.{sequence}
+use Rattle.bch.specs.Elimination.{sequence}
 use Rattle.bch_inner.proofs.eliminate.powers.Goals as goal
 
 start : (m : ℕ → ℕ → ℕ) (y j : ℕ) (xs : List ℕ) → j < 1 → sequence (1 ∷ xs) j ≡ power m y j

@@ -1,7 +1,7 @@
 use Rattle.std.proofs.Common.{◌≡◌, ℕ, ◌<◌, length}
 use Rattle.gf2.specs.Fields.{product}
 use Rattle.gf2.specs.Polynomials.{power}
-use Rattle.bch_inner.specs.Elimination.{sequence}
+use Rattle.bch.specs.Elimination.{sequence}
 use Rattle.bch_inner.proofs.eliminate.powers.Given as goal
 
 abbrev pub invariant-loop-k : goal.invariant-loop-k

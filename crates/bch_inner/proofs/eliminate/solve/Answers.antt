@@ -1,7 +1,7 @@
 use Rattle.std.proofs.Common.{◌≡◌, ℕ, suc, ◌+◌, ◌-◌, ◌<◌, ◌≤◌, List, take, sym, ap, ◌∙◌, arith}
 use Rattle.gf2.specs.Fields.{product}
-use Rattle.bch_inner.specs.Elimination.{met_one, met_all, sequence}
-use Rattle.bch_inner.specs.Decoding.{inverse_or_0}
+use Rattle.bch.specs.Elimination.{met_one, met_all, sequence}
+use Rattle.bch.specs.Decoding.{inverse_or_0}
 use Rattle.bch_inner.proofs.eliminate.solve.Goals as goal
 
 module _ (m : ℕ → ℕ → ℕ) (inv s : ℕ → ℕ) where

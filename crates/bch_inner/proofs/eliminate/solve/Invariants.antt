@@ -1,7 +1,7 @@
 use Rattle.std.proofs.Common.{◌≡◌, ◌+◌, ◌-◌, ◌≤◌, length, take}
 use Rattle.gf2.specs.Fields.{product}
-use Rattle.bch_inner.specs.Elimination.{met_all, sequence, unit_rows}
-use Rattle.bch_inner.specs.Decoding.{inverse_or_0}
+use Rattle.bch.specs.Elimination.{met_all, sequence, unit_rows}
+use Rattle.bch.specs.Decoding.{inverse_or_0}
 use Rattle.bch_inner.proofs.eliminate.solve.Given as goal
 
 abbrev pub invariant-loop-i : goal.invariant-loop-i

@@ -2,7 +2,7 @@ use Rattle.std.proofs.Common.{refl}
 use Rattle.gf2.specs.Product.{times_x}
 use Rattle.gf2.specs.Words.{bits_of}
 use Rattle.bch_inner.specs.declared.code.Bch.TheVariants.{Worked}
-use Rattle.bch_inner.specs.Checks.{running}
+use Rattle.bch.specs.Checks.{running}
 use Rattle.bch_inner.specs.Settings.{generator_top, generator_tail}
 use Rattle.bch_inner.proofs.Bytes.{entries, rule}
 use Rattle.bch_inner.proofs.remainders.worked_table.Goals as goal

@@ -3,8 +3,8 @@ use Rattle.gf2.specs.declared.field.Field.{Field}
 use Rattle.gf2.specs.Polynomials.{power as power_under}
 use Rattle.gf2.specs.Words.{bits, weight}
 use Rattle.gf2.specs.Fields.{alpha, product, power}
-use Rattle.bch_inner.specs.Decoding.{all_vanish, marks, root_at}
-use Rattle.bch_inner.proofs.Flips.{flip_more, skip_more, flip_none, flip_all, count_more, count_same, count_none}
+use Rattle.bch.specs.Decoding.{all_vanish, marks, root_at}
+use Rattle.bch.proofs.Flips.{flip_more, skip_more, flip_none, flip_all, count_more, count_same, count_none}
 use Rattle.bch_inner.proofs.Terms.{moved_on}
 use Rattle.bch_inner.proofs.roots.flip_roots.Goals as goal
 use Rattle.bch_inner.proofs.roots.flip_roots.Goals.{then-vanish_by_terms, else-vanish_by_terms}

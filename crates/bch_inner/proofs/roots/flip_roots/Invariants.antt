@@ -1,8 +1,9 @@
 use Rattle.std.proofs.Common.{◌≡◌, ◌≤◌, [], get_or, take}
 use Rattle.gf2.specs.Words.{bits, add, weight}
 use Rattle.gf2.specs.Fields.{alpha, power}
-use Rattle.bch_inner.specs.Decoding.{TermsAt, root_at, root_marks}
-use Rattle.bch_inner.proofs.Flips.{last_marks}
+use Rattle.bch.specs.Decoding.{root_at, root_marks}
+use Rattle.bch_inner.specs.Decoding.{TermsAt}
+use Rattle.bch.proofs.Flips.{last_marks}
 use Rattle.bch_inner.proofs.roots.flip_roots.Given as goal
 
 -- the last i of the bits are done

@@ -1,6 +1,6 @@
 use Rattle.std.proofs.Common.{◌∙◌, arith}
 use Rattle.gf2.specs.Fields.{sum}
-use Rattle.bch_inner.specs.Elimination.{sequence}
+use Rattle.bch.specs.Elimination.{sequence}
 use Rattle.bch_inner.proofs.Terms.{none_changed, one_changed, at_one}
 use Rattle.bch_inner.proofs.roots.terms_at_one.Goals as goal
 

@@ -7,8 +7,8 @@ use Rattle.gf2.specs.Fields.{width, product, power, alpha}
 use Rattle.gf2.proofs.Digits.{bits_of_at}
 use Rattle.gf2.proofs.Five.{field}
 use Rattle.gf2.proofs.Sums.{bits_of_length}
-use Rattle.bch_inner.specs.Checks.{running}
-use Rattle.bch_inner.specs.Theory.Horner.{horner, horner_0}
+use Rattle.bch.specs.Checks.{running}
+use Rattle.bch.proofs.Horner.{horner, horner_0}
 use Rattle.bch_inner.proofs.Runs as runs
 use Rattle.bch_inner.proofs.syndrome.syndrome.Goals as goal
 use Rattle.bch_inner.proofs.syndrome.syndrome.Goals.{then-number-count-eq1, else-number-count-eq1}

@@ -1,7 +1,7 @@
 use Rattle.std.proofs.Common.{◌≡◌, take}
 use Rattle.gf2.specs.Words.{bits_of}
 use Rattle.gf2.specs.Fields.{alpha, product, power}
-use Rattle.bch_inner.specs.Theory.Horner.{horner}
+use Rattle.bch.proofs.Horner.{horner}
 use Rattle.bch_inner.proofs.syndrome.syndrome.Given as goal
 
 abbrev pub invariant-loop-i : goal.invariant-loop-i

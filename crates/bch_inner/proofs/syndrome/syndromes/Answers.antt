@@ -1,7 +1,7 @@
 use Rattle.std.proofs.Common.{◌≡◌, ◌≤◌, ◌≢◌, get_or, set, ◌∙◌, arith, below_more}
 use Rattle.std.proofs.lemmas.List.{length-set, get_or-set_same, get_or-set_other}
 use Rattle.gf2.specs.Words.{bits_of}
-use Rattle.bch_inner.specs.Code.{syndrome}
+use Rattle.bch.specs.Code.{syndrome}
 use Rattle.bch_inner.proofs.syndrome.syndromes.Goals as goal
 
 pub loop-j-preserved : goal.loop-j-preserved

@@ -1,6 +1,6 @@
 use Rattle.std.proofs.Common.{◌≡◌, ℕ, ◌<◌, ◌≤◌, length, get_or}
 use Rattle.gf2.specs.Words.{bits_of}
-use Rattle.bch_inner.specs.Code.{syndrome}
+use Rattle.bch.specs.Code.{syndrome}
 use Rattle.bch_inner.proofs.syndrome.syndromes.Given as goal
 
 abbrev pub invariant-loop-j : goal.invariant-loop-j

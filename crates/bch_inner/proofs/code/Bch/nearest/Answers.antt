@@ -5,10 +5,10 @@ use Rattle.gf2.specs.Words.{bits, bits_of, add, weight}
 use Rattle.gf2.specs.Fields.{product}
 use Rattle.gf2.proofs.Places.{bits_length}
 use Rattle.bch_inner.specs.declared.code.Bch.{Bch}
-use Rattle.bch_inner.specs.Code.{syndrome}
+use Rattle.bch.specs.Code.{syndrome}
 use Rattle.bch_inner.specs.Settings.{field, errors, inner_bits, check_bits, rest}
-use Rattle.bch_inner.specs.Elimination.{met_all, sequence, unit_rows}
-use Rattle.bch_inner.specs.Decoding.{inverse_or_0, root_marks}
+use Rattle.bch.specs.Elimination.{met_all, sequence, unit_rows}
+use Rattle.bch.specs.Decoding.{inverse_or_0, root_marks}
 use Rattle.bch_inner.proofs.Correcting.{unchanged, accepted, too_many_flips, not_a_codeword}
 use Rattle.bch_inner.proofs.Rest.{same_syndromes, codeword, no_codeword}
 use Rattle.bch_inner.proofs.code.Bch.nearest.Goals as goal

@@ -4,9 +4,9 @@ use Rattle.gf2.specs.Words.{bits, bits_of}
 use Rattle.gf2.specs.Product.{times_x}
 use Rattle.gf2.proofs.Places.{bits_length}
 use Rattle.bch_inner.specs.declared.code.Bch.{Bch}
-use Rattle.bch_inner.specs.Checks.{running, remainder}
+use Rattle.bch.specs.Checks.{running, remainder}
 use Rattle.bch_inner.specs.Settings.{generator_top, generator_tail, check_bits, checks_number}
-use Rattle.bch_inner.specs.Theory.Remainder.{remainder_lt}
+use Rattle.bch.proofs.Remainder.{remainder_lt}
 use Rattle.bch_inner.specs.Theory.Tested.{tested}
 use Rattle.bch_inner.proofs.Bytes.{byte_more}
 use Rattle.bch_inner.proofs.Runs as runs

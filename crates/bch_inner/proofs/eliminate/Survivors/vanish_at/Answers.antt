@@ -1,9 +1,9 @@
 use Rattle.std.proofs.Common.{◌≡◌, ℕ, ◌<◌, List, [], length, get_or, take, sym, ◌∙◌, arith}
 use Rattle.gf2.specs.Fields.{product}
 use Rattle.gf2.specs.Polynomials.{power}
-use Rattle.bch_inner.specs.Elimination.{against, sequence}
-use Rattle.bch_inner.specs.Decoding.{all_vanish}
-use Rattle.bch_inner.proofs.Rows as rows
+use Rattle.bch.specs.Elimination.{against, sequence}
+use Rattle.bch.specs.Decoding.{all_vanish}
+use Rattle.bch.proofs.Rows as rows
 use Rattle.bch_inner.proofs.eliminate.Survivors.vanish_at.Goals as goal
 
 -- the polynomial's value from its sum with the powers

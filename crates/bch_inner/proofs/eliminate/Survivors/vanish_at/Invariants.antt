@@ -1,6 +1,6 @@
 use Rattle.std.proofs.Common.{◌≡◌, ◌-◌, take, drop}
 use Rattle.gf2.specs.Fields.{product}
-use Rattle.bch_inner.specs.Decoding.{all_vanish}
+use Rattle.bch.specs.Decoding.{all_vanish}
 use Rattle.bch_inner.proofs.eliminate.Survivors.vanish_at.Given as goal
 
 abbrev pub invariant-loop-k : goal.invariant-loop-k
