@@ -1,6 +1,10 @@
 // Bits of bytes, numbered from 1, the most significant of each byte first.
-ghost use Rattle.std.specs.Prelude.{◌≡◌, ◌+◌, ◌-◌, ◌/◌, ◌%◌, ◌^◌, ◌<◌, ◌≤◌, false, length, nat_le, slice_index, slice_index_or, slice_set};
+ghost use Rattle.std.specs.Prelude.{◌≡◌, ◌+◌, ◌-◌, ◌/◌, ◌%◌, ◌^◌, ◌<◌, ◌≤◌, false, is_ok, length, nat_le, slice_index, slice_index_or, slice_set};
 ghost use Rattle.gf2.specs.Words.{bits, bit_number, flipped, weight as weight_of, byte_distance, number_behind, bits_of, with_run, room_for, with_number};
+
+// The bytes end before the bits that were asked for, or these are too many.
+#[derive(Clone, Copy, PartialEq, Eq, Debug)]
+pub struct NoRoom;
 
 // The bit at a place of a byte, counted from 0, the most significant first; the place counts modulo 8.
 fn digit(byte: u8, place: usize) -> u8
@@ -131,17 +135,17 @@ fn write_number(bytes: &mut [u8], skip: usize, count: u32, number: u128)
 }
 
 // Writes the `count` low bits of a number, the highest first, over those behind the first `skip`. Where the bytes end before or the count is above
-// 128, nothing changes and the answer is false.
-pub fn put_number(bytes: &mut [u8], skip: usize, count: u32, number: u128) -> bool
-    ensures accepts_where_there_is_room { result ≡ room_for (bits bytes.old) skip count }
+// 128, nothing changes.
+pub fn put_number(bytes: &mut [u8], skip: usize, count: u32, number: u128) -> Result<(), NoRoom>
+    ensures accepts_where_there_is_room { is_ok result ≡ room_for (bits bytes.old) skip count }
     ensures only_those_bits_are_set_so { bits bytes.new ≡ with_number (bits bytes.old) skip count number }
 {
     if count > 128 {
-        return false;
+        return Err(NoRoom);
     }
     if skip / 8 + (skip % 8 + count as usize + 7) / 8 > bytes.len() {
-        return false;
+        return Err(NoRoom);
     }
     write_number(&mut bytes[skip / 8..], skip % 8, count, number);
-    true
+    Ok(())
 }
