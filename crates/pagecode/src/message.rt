@@ -1,9 +1,10 @@
 // The parts of a message: a bit u and the bits behind it.
-ghost use Rattle.std.specs.Prelude.{◌≡◌, ◌+◌, ◌^◌, ◌<◌, ◌≤◌, ◌++◌, length, take, drop};
+ghost use Rattle.std.specs.Prelude.{◌≡◌, ◌+◌, ◌^◌, ◌<◌, ◌≤◌, ◌++◌, length, take, drop, if◌then◌else◌};
 ghost use Rattle.gf2.specs.Words.{bits, bits_of};
 ghost use Rattle.gf2.specs.Fields.{width};
 ghost use Rattle.pagecode.specs.InnerData.{each, data_fits, with_inner_data};
 
+use crate::nonlinear::Misfit;
 use gf2::bits::{holds, is_set, put};
 use gf2::field::Field;
 
@@ -24,23 +25,20 @@ fn copy_behind_first(message: &[u8], count: usize, out: &mut [u8])
 }
 
 // Writes v_k, the `count` bits behind the message's first bit u with u added to the first of them, over the first bits of `out`.
-// Answers whether the lengths fit; where they do not, nothing changes.
-pub fn inner_data(message: &[u8], count: usize, out: &mut [u8]) -> bool
-    ensures accepts_lengths_that_fit { result ≡ data_fits (bits message.now) count (bits out.old) }
+// Where the lengths do not fit, nothing changes.
+pub fn inner_data(message: &[u8], count: usize, out: &mut [u8]) -> Result<(), Misfit>
+    ensures accepts_lengths_that_fit { result ≡ if data_fits (bits message.now) count (bits out.old) then Ok tt else Err Misfit.Length }
     ensures writes_v_k_over_the_first_bits { bits out.new ≡ with_inner_data (bits message.now) count (bits out.old) }
 {
-    if count / 8 >= message.len() {
-        return false;
-    }
-    if !holds(out, count) {
-        return false;
+    if count / 8 >= message.len() || !holds(out, count) {
+        return Err(Misfit::Length);
     }
     copy_behind_first(message, count, out);
     if count > 0 {
         let sum = is_set(out, 0) != is_set(message, 0);
         put(out, 0, sum);
     }
-    true
+    Ok(())
 }
 
 // The bits of f with u added to each.
