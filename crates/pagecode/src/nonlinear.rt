@@ -4,7 +4,7 @@ ghost use Rattle.gf2.specs.Words.{bits};
 ghost use Rattle.gf2.specs.Fields.{width as width_of, product};
 ghost use Rattle.pagecode.specs.Groups.{f_of_first, product_behind};
 
-use gf2::bits::number;
+use gf2::bits::{NoRoom, number};
 use gf2::field::{Field, NoSuchField};
 
 // Why a run of bits has no f, or a message no v_k.
@@ -23,6 +23,17 @@ impl From<NoSuchField> for Misfit {
 
     fn from(_: NoSuchField) -> Misfit {
         Misfit::NoField
+    }
+}
+
+// A buffer that is too short has the wrong length.
+impl From<NoRoom> for Misfit {
+    ghost use Rattle.pagecode.specs.declared.nonlinear.Misfit.TheVariants.{Length};
+
+    ghost from_gives = { λ _ misfit. misfit ≡ Length };
+
+    fn from(_: NoRoom) -> Misfit {
+        Misfit::Length
     }
 }
 
