@@ -71,11 +71,7 @@ pub fn flip(bytes: &mut [u8], nth: usize) -> Option<bool>
 pub fn weight(bytes: &[u8]) -> u128
     ensures number_of_set_bits { result ≡ weight_of (bits bytes.now) }
 {
-    let mut count = 0;
-    for byte in bytes {
-        count += u128::from(byte.count_ones());
-    }
-    count
+    bytes.iter().map(|byte| u128::from(byte.count_ones())).sum()
 }
 
 // The number of bits in which two slices differ; none where their lengths do.
@@ -85,11 +81,12 @@ pub fn distance(a: &[u8], b: &[u8]) -> Option<u128>
     if a.len() != b.len() {
         return None;
     }
-    let mut count = 0;
-    for (i, x) in a.iter().enumerate() {
-        count += u128::from((*x ^ b[i]).count_ones());
-    }
-    Some(count)
+    Some(
+        a.iter()
+            .zip(b)
+            .map(|(x, y)| u128::from((*x ^ *y).count_ones()))
+            .sum(),
+    )
 }
 
 // The byte at that index; 0 past the end.
