@@ -4,6 +4,8 @@ ghost use Rattle.std.specs.Prelude.{◌≡◌, ◌^◌, ◌<◌, nat_lt};
 ghost use Rattle.gf2.specs.Fields.{width as width_of, top, modulus_tail, element as element_of, sum as sum_in, alpha, product as product_in, power as power_in, inverse as inverse_in, IsInverse, IsFieldOfWidth};
 
 use crate::modulus::Modulus;
+use std::error::Error;
+use std::fmt;
 
 // A field by the bits m of its elements.
 #[derive(Clone, Copy, PartialEq, Eq, Debug)]
@@ -18,6 +20,14 @@ pub enum Field {
 // The bits of an element that no field of the five has.
 #[derive(Clone, Copy, PartialEq, Eq, Debug)]
 pub struct NoSuchField(pub u32);
+
+impl fmt::Display for NoSuchField {
+    fn fmt<W: fmt::Write>(&self, f: &mut fmt::Formatter<W>) -> fmt::Result {
+        write!(f, "no field has elements of {} bits", self.0)
+    }
+}
+
+impl Error for NoSuchField {}
 
 // The field whose elements have that many bits.
 impl TryFrom<u32> for Field {
@@ -101,6 +111,7 @@ impl Field {
     {
         let element = self.element(a);
         let mut sum = 0;
+        // The index is a shift amount, so a fold over the range reads no plainer.
         for i in (0..self.width()).rev() {
             sum = self.times_alpha(sum);
             if (b >> i) & 1 == 1 {
@@ -117,6 +128,7 @@ impl Field {
         let mut result = 1;
         let mut square = a;
         let mut left = exponent;
+        // The exponent is halved, which walks over no range.
         while left > 0 {
             if left % 2 == 1 {
                 result = self.product(result, square);
