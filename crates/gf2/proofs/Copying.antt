@@ -2,7 +2,7 @@
 use Rattle.std.proofs.Common.{◌≡◌, ℕ, zero, suc, ◌+◌, ◌-◌, ◌*◌, ◌^◌, ◌<◌, ◌≤◌, Bool, true, false, cond, leb, List, ◌∷◌, ◌++◌, length, take, drop, set, unwrap_or, sym, refl, ap, ◌∙◌, subst, ap₂, suc-mul, arith, length-drop, drop-drop}
 use lib.Seq.{set_split}
 use Rattle.std.proofs.lemmas.List.{length-take-le, take_all}
-use Rattle.std.proofs.lemmas.Bool.{le-leb, lt-leb, leb-true, leb-false}
+use Rattle.std.proofs.lemmas.Bool.{le-leb, leb-true, leb-false}
 use Rattle.gf2.specs.Words.{bits_of, bits, number, number_behind, with_run, both_have, with_bits_of}
 use Rattle.gf2.proofs.Sums.{bits_of_length, number_lt}
 use Rattle.gf2.proofs.Digits.{bits_of_number}
@@ -63,9 +63,6 @@ from_byte bs i s h =
 -- whether both words have the bits
 pub both : (k : ℕ) (v : List Bool) (s : ℕ) (w : List Bool) (at : ℕ) → s + k ≤ length v → at + k ≤ length w → true ≡ both_have k v s w at
 both k v s w at h l = sym (ap (λ (b : Bool). cond b (leb (at + k) (length w)) false) (le-leb (s + k) (length v) h) ∙ le-leb (at + k) (length w) l)
-
-pub first_has_not : (k : ℕ) (v : List Bool) (s : ℕ) (w : List Bool) (at : ℕ) → length v < s + k → false ≡ both_have k v s w at
-first_has_not k v s w at h = sym (ap (λ (b : Bool). cond b (leb (at + k) (length w)) false) (lt-leb (s + k) (length v) h))
 
 -- where they do not, nothing changes
 pub left : (k : ℕ) (v : List Bool) (s : ℕ) (w : List Bool) (at : ℕ) → false ≡ both_have k v s w at → w ≡ with_bits_of k v s w at
