@@ -1,5 +1,5 @@
 -- The sum of products grows by one product with each pair of groups.
-use Rattle.std.proofs.Common.{◌≡◌, ℕ, zero, suc, ◌+◌, ◌-◌, ◌*◌, ◌/◌, ◌%◌, ◌^◌, ◌<◌, ◌≤◌, Bool, true, false, cond, leb, List, [], ◌∷◌, ◌++◌, length, take, drop, Some, None, Ok, Err, Option, sym, refl, ap, ◌∙◌, ap₂, mul-le-mul_right, mod-eq_of_lt, zero-lt-suc, mul_assoc, suc-mul, add_comm, div-add-mod', mul-div_cancel, add-one, arith, pow_pos}
+use Rattle.std.proofs.Common.{◌≡◌, ℕ, zero, suc, ◌+◌, ◌-◌, ◌*◌, ◌/◌, ◌%◌, ◌^◌, ◌<◌, ◌≤◌, Bool, true, false, cond, leb, List, [], ◌∷◌, ◌++◌, length, take, drop, Some, None, Ok, Err, Option, sym, refl, ap, ◌∙◌, ap₂, mod-eq_of_lt, zero-lt-suc, mul_assoc, suc-mul, add_comm, div-add-mod', mul-div_cancel, add-one, arith, pow_pos}
 use native.Mathlib.Nat.{add-mul-div_right, zero-div}
 use lib.Bits.{bit_xor, xor_assoc, xor_zero_r, xor_lt}
 use Rattle.std.proofs.lemmas.List.{take-take, take-append-le, take_at, take_all, drop-drop, drop-take, drop-append-le, drop_at, length-take-le, length-drop, length-append, nil_from_length}
@@ -60,11 +60,6 @@ groups_take r (suc n) k w h =
     ap₂ ◌∷◌ (ap number (take-take r k w room))
     (ap (groups r n) (ap (λ (i : ℕ). drop r (take i w)) (let e : k ≡ r + (k - r) = omega arith in e) ∙ drop-take r (k - r) w)
     ∙ groups_take r n (k - r) (drop r w) (omega (arith, suc-mul n r)))
-
--- pairs that a run of k bits holds, and the room each takes
-pub pair_room : (k r p : ℕ) → p < k / (2 * r) → p * (2 * r) + 2 * r ≤ k
-pair_room k r p h =
-    omega (arith, mul-le-mul_right (2 * r) h, suc-mul p (2 * r), div-add-mod' k (2 * r))
 
 -- k bits that are pairs of groups
 pub pairs_are : (k r : ℕ) → k % (2 * r) ≡ 0 → k ≡ double (k / (2 * r)) * r
