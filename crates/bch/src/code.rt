@@ -1,6 +1,6 @@
 // The BCH codes in use.
 ghost use Rattle.std.specs.Prelude.{◌≡◌};
-ghost use Rattle.bch.specs.Settings.{field as field_of, errors as errors_of, word_bits as word_bits_of, generator_top as generator_top_of, generator_tail as generator_tail_of};
+ghost use Rattle.bch.specs.Settings.{field as field_of, errors as errors_of, word_bits as word_bits_of, data_bits as data_bits_of, check_bits as check_bits_of, generator_tail as generator_tail_of};
 
 use gf2::field::Field;
 
@@ -43,14 +43,21 @@ impl Bch {
         }
     }
 
-    // One less than the generator's degree, which is the number of check bits.
-    pub(crate) fn generator_top(self) -> u32
-        ensures one_less_than_the_check_bits { result ≡ generator_top_of self }
+    // r1, the check bits of a word and the generator's degree.
+    pub(crate) fn degree(self) -> usize
+        ensures check_bits_of_a_word { result ≡ check_bits_of self }
     {
         match self {
-            Bch::Worked => 9,
-            Bch::Long => 69,
+            Bch::Worked => 10,
+            Bch::Long => 70,
         }
+    }
+
+    // k1, the data bits of a word.
+    pub(crate) fn data_bits(self) -> usize
+        ensures data_bits_of_a_word { result ≡ data_bits_of self }
+    {
+        self.word_bits() - self.degree()
     }
 
     // The generator without its highest term.

@@ -3,6 +3,7 @@ ghost use Rattle.std.specs.Prelude.{◌≡◌, ℕ, ◌+◌, ◌-◌, ◌<◌, �
 ghost use Rattle.gf2.specs.Fields.{product, power};
 ghost use Rattle.bch.specs.Elimination.{against as sum_against, add_scaled, cleared, met_one, met_all, sequence, unit_rows};
 ghost use Rattle.bch.specs.Decoding.{all_vanish, inverse_or_0};
+ghost use Rattle.bch.specs.Decoding.{TermsAt};
 
 use gf2::field::Field;
 
@@ -51,6 +52,7 @@ fn meet(field: Field, s: &[u16; 11], i: usize, polys: &mut [[u16; 6]; 6], count:
     requires inside { i < 6 }
     requires many { count ≤ 6 }
     ensures no_more { result ≤ count }
+    ensures one_fewer_at_most { count ≤ result + 1 }
     ensures those_that_meet_it { take result polys.new ≡ met_one (product field) (inverse_or_0 field) (sequence s.now) i (take count polys.old) }
 {
     for j in 0..count {
@@ -73,12 +75,13 @@ const UNITS: [[u16; 6]; 6] = [
     [0, 0, 0, 0, 0, 1],
 ];
 
-// The first `count` polynomials: those that the elimination leaves.
+// The first `count` polynomials: those that the elimination leaves. There is one more at the start than equations, so one at least is left.
 #[derive(Clone, Copy)]
 pub(crate) struct Survivors {
     pub polys: [[u16; 6]; 6],
     pub count: usize,
     ghost inside: { count ≤ 6 },
+    ghost some: { 1 ≤ count },
 }
 
 // What is left of 1, z, .., z^t after the equations 1 to t of the sequence s.
@@ -118,5 +121,14 @@ impl Survivors {
             }
         }
         true
+    }
+
+    // The same, by the terms of the first of them at y: mostly it is not 0 there, and they tell that without a product.
+    pub(crate) fn vanish_by_terms(&self, field: Field, terms: &[u16; 6], y: u16) -> bool
+        requires terms_of_the_first { TermsAt field (slice_index_or self.now.polys 0 []) y terms.now }
+        ensures all_are_0_there { result ≡ all_vanish (product field) (take self.now.count self.now.polys) y }
+    {
+        terms[0] ^ terms[1] ^ terms[2] ^ terms[3] ^ terms[4] ^ terms[5] == 0
+            && self.vanish_at(field, y)
     }
 }

@@ -5,7 +5,7 @@ ghost use Rattle.bch.specs.Nearest.{Nearest};
 use crate::code::Bch;
 use crate::eliminate::solve;
 use crate::roots::flip_roots;
-use crate::syndrome::{is_codeword, syndromes};
+use crate::syndrome::syndromes;
 use gf2::bits::holds;
 
 impl Bch {
@@ -20,10 +20,15 @@ impl Bch {
         if !holds(word, count) {
             return None;
         }
-        let sums = syndromes(field, word, count, t);
+        let rest = self.rest(word);
+        if rest == 0 {
+            return Some(0);
+        }
+        // The word differs from a codeword by the rest alone, so the two have the same syndromes.
+        let sums = syndromes(field, rest, self.degree(), t);
         let left = solve(field, &sums, t);
         let flips = flip_roots(field, &left, word, count);
-        if flips <= t && is_codeword(field, word, count, t) {
+        if flips <= t && self.rest(word) == 0 {
             return Some(flips);
         }
         let _ = flip_roots(field, &left, word, count);

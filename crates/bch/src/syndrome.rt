@@ -1,22 +1,44 @@
-// The values of a word's polynomial at the powers of alpha.
-ghost use Rattle.std.specs.Prelude.{◌≡◌, ℕ, ◌+◌, ◌<◌, ◌≤◌, length, take, slice_index};
-ghost use Rattle.gf2.specs.Words.{bits};
+// The values of a polynomial at the powers of alpha.
+ghost use Rattle.std.specs.Prelude.{◌≡◌, ℕ, ◌+◌, ◌<◌, ◌≤◌, slice_index};
+ghost use Rattle.gf2.specs.Fields.{alpha, product, power};
+ghost use Rattle.gf2.specs.Product.{times_x};
+ghost use Rattle.gf2.specs.Words.{bits_of};
 ghost use Rattle.bch.specs.Code.{syndrome as syndrome_of};
-ghost use Rattle.bch.specs.Decoding.{syndromes_vanish};
 
-use gf2::bits::is_set;
 use gf2::field::Field;
 
-// The polynomial of the first `count` bits at alpha^j.
-pub(crate) fn syndrome(field: Field, bytes: &[u8], count: usize, j: u64) -> u16
-    requires enough { count ≤ length (bits bytes.now) }
-    ensures value_at_that_power { result ≡ syndrome_of field (take count (bits bytes.now)) j }
+// x times a modulo x^(top+1) + tail. Both outcomes are at hand before the test, so that it needs no jump.
+fn times_x(a: u16, top: u32, tail: u16) -> u16
+    requires inside { top < 15 }
+    ensures moves_up_and_reduces { result ≡ times_x top tail a }
 {
-    let point = field.power(2, j);
+    let low = (a & ((1 << top) - 1)) << 1;
+    if (a >> top) & 1 == 1 { low ^ tail } else { low }
+}
+
+// alpha^k times a.
+pub(crate) fn times_power(field: Field, a: u16, k: usize) -> u16
+    ensures product_with_that_power { result ≡ product field (power field alpha k) a }
+{
+    let top = field.width() - 1;
+    // The modulus without its highest term is what that term is equal to.
+    let tail = field.times_alpha(1 << top);
+    let mut moved = field.sum(a, 0);
+    for _i in 0..k {
+        moved = times_x(moved, top, tail);
+    }
+    moved
+}
+
+// The polynomial of the `count` low bits of a number at alpha^j.
+fn syndrome(field: Field, number: u128, count: usize, j: usize) -> u16
+    requires few { count ≤ 127 }
+    ensures value_at_that_power { result ≡ syndrome_of field (bits_of count number) j }
+{
     let mut sum = 0;
-    for skip in 0..count {
-        sum = field.product(point, sum);
-        if is_set(bytes, skip) {
+    for i in 0..count {
+        sum = times_power(field, sum, j);
+        if (number >> (count - 1 - i)) & 1 == 1 {
             sum = sum ^ 1;
         }
     }
@@ -24,28 +46,14 @@ pub(crate) fn syndrome(field: Field, bytes: &[u8], count: usize, j: u64) -> u16
 }
 
 // The syndromes 1 to 2t, each at its own index.
-pub(crate) fn syndromes(field: Field, bytes: &[u8], count: usize, t: usize) -> [u16; 11]
-    requires enough { count ≤ length (bits bytes.now) }
-    requires few { t < 6 }
-    ensures one_to_twice_t { (j : ℕ) → 1 ≤ j → j ≤ t + t → slice_index result j ≡ syndrome_of field (take count (bits bytes.now)) j }
+pub(crate) fn syndromes(field: Field, number: u128, count: usize, t: usize) -> [u16; 11]
+    requires few { count ≤ 127 }
+    requires inside { t < 6 }
+    ensures one_to_twice_t { (j : ℕ) → 1 ≤ j → j ≤ t + t → slice_index result j ≡ syndrome_of field (bits_of count number) j }
 {
     let mut all = [0; 11];
     for j in 1..t + t + 1 {
-        all[j] = syndrome(field, bytes, count, j as u64);
+        all[j] = syndrome(field, number, count, j);
     }
     all
-}
-
-// Whether the syndromes 1 to 2t of the first `count` bits are 0.
-pub(crate) fn is_codeword(field: Field, bytes: &[u8], count: usize, t: usize) -> bool
-    requires enough { count ≤ length (bits bytes.now) }
-    requires few { t < 6 }
-    ensures all_syndromes_vanish { result ≡ syndromes_vanish field (take count (bits bytes.now)) 1 (t + t) }
-{
-    for j in 0..t + t {
-        if syndrome(field, bytes, count, j as u64 + 1) != 0 {
-            return false;
-        }
-    }
-    true
 }

@@ -15,6 +15,7 @@ returns-then-against-ne0 c =
     let long : length ps ≡ 6 = ap length c.loop-j.invariant.0 ∙ c.told-polys in
     record {
       no_more = omega arith;
+      one_fewer_at_most = omega arith;
       those_that_meet_it = c.clear.ensures.one_fewer
           ∙ rows.met_one_found m inv s i (get_or ps c.loop-j.j []) ps (met_one m inv s i (take c.args.count ps)) c.args.count c.loop-j.j
           c.loop-j-test.true (omega arith) refl (λ e. c.if-against-ne0.true (c.against.ensures.sum_of_products ∙ e)) c.loop-j.invariant.1
@@ -43,6 +44,7 @@ returns c =
     let ps = c.loop-j.polys in
     record {
       no_more = omega arith;
+      one_fewer_at_most = omega arith;
       those_that_meet_it = rows.met_one_end m inv s i ps (met_one m inv s i (take c.args.count ps)) c.args.count c.loop-j.j c.loop-j-test.false c.loop-j.auto.j-end c.loop-j.invariant.1
           ∙ ap (λ (x : List (List ℕ)). met_one m inv s i (take c.args.count x)) c.loop-j.invariant.0;
     }

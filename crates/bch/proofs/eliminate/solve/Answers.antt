@@ -25,9 +25,10 @@ loop-i-preserved c =
     let i = c.loop-i.i in (
       c.meet-count.array_long,
       omega (arith, c.loop-i.invariant.1, c.meet-count.ensures.no_more),
+      omega (arith, c.loop-i.invariant.2, c.meet-count.ensures.one_fewer_at_most),
       ap (met_all m inv s (t - (i + 1)) (i + 1 + 1)) c.meet-count.ensures.those_that_meet_it
           ∙ turn m inv s t i (take c.loop-i.count c.loop-i.polys) c.loop-i-test.true
-          ∙ c.loop-i.invariant.2,
+          ∙ c.loop-i.invariant.3,
     )
 
 pub returns : goal.returns
@@ -36,5 +37,5 @@ returns c =
       meet_all_equations =
           end (product c.args.field) (inverse_or_0 c.args.field) (sequence c.args.s.now) c.args.t c.loop-i.i
           (take c.loop-i.count c.loop-i.polys) c.loop-i-test.false
-          ∙ c.loop-i.invariant.2;
+          ∙ c.loop-i.invariant.3;
     }

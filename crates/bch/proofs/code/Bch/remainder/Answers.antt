@@ -1,11 +1,50 @@
-use Rattle.std.proofs.Common.{◌≡◌, Bool, false, cond, get_or, take, sym, ap, ◌∙◌, ap₂}
+use Rattle.std.proofs.Common.{◌≡◌, ℕ, ◌*◌, ◌/◌, ◌^◌, ◌<◌, Bool, false, cond, [], get_or, take, sym, refl, ap, ◌∙◌, subst, ap₂, arith, pow_pos}
 use lib.Bits.{bit_xor, xor_zero_r}
-use Rattle.gf2.specs.Words.{bits}
+use Rattle.gf2.specs.Words.{bits, bits_of}
 use Rattle.gf2.specs.Product.{times_x}
-use Rattle.bch.specs.Settings.{generator_top, generator_tail, checks_number}
+use Rattle.gf2.proofs.Places.{bits_length}
+use Rattle.bch.specs.declared.code.Bch.{Bch}
+use Rattle.bch.specs.Checks.{running, remainder}
+use Rattle.bch.specs.Settings.{generator_top, generator_tail, check_bits, checks_number}
+use Rattle.bch.specs.Theory.Remainder.{remainder_lt}
+use Rattle.bch.specs.Theory.Tested.{tested}
+use Rattle.bch.proofs.Bytes.{byte_more}
 use Rattle.bch.proofs.Runs as runs
 use Rattle.bch.proofs.code.Bch.remainder.Goals as goal
 use Rattle.bch.proofs.code.Bch.remainder.Goals.{then-is_set, else-is_set}
+
+start : (C : Bch) → 0 ≡ checks_number C []
+unfolding running
+start C = refl
+
+pub bounds-bytes-i : goal.bounds-bytes-i
+bounds-bytes-i c = omega (arith, bits_length c.args.bytes.now, c.loop-i-test.true, c.requires.enough)
+
+pub loop-i-init : goal.loop-i-init
+loop-i-init c = start c.args.self
+
+pub next_byte-register-requires : goal.next_byte-register-requires
+next_byte-register-requires c =
+    let C = c.args.self in
+    let w = take (c.loop-i.i * 8) (bits c.args.bytes.now) in
+    record {
+      remainders = c.remainders-table.ensures.each_at_its_byte;
+      reduced = subst (λ (x : ℕ). x < 2 ^ check_bits C) (sym c.loop-i.invariant) (remainder_lt (generator_top C) (generator_tail C) (tested C).tail w 0 (pow_pos (check_bits C)));
+    }
+
+pub loop-i-preserved : goal.loop-i-preserved
+loop-i-preserved c =
+    let C = c.args.self in
+    let n = generator_top C in
+    let g = generator_tail C in
+    let bs = c.args.bytes.now in
+    let i = c.loop-i.i in
+    c.next_byte-register.ensures.eight_bits_on
+    ∙ ap (λ (r : ℕ). remainder n g r (bits_of 8 (get_or bs i 0))) c.loop-i.invariant
+    ∙ sym (ap (checks_number C) (byte_more bs i (omega (arith, bits_length bs, c.loop-i-test.true, c.requires.enough))) ∙ runs.on (times_x n g) g 0 (take (i * 8) (bits bs)) (bits_of 8 (get_or bs i 0)))
+
+pub loop-skip-init : goal.loop-skip-init
+loop-skip-init c = c.loop-i.invariant ∙ ap (λ (k : ℕ). checks_number c.args.self (take k (bits c.args.bytes.now))) (let e : c.loop-i.i * 8 ≡ c.args.count / 8 * 8 = omega arith in e)
 
 pub loop-skip-preserved : goal.loop-skip-preserved
 loop-skip-preserved c =
@@ -23,16 +62,11 @@ loop-skip-preserved c =
           y.register-is ∙ sym (xor_zero_r c.times_x-register.result)
           ∙ ap₂ bit_xor c.times_x-register.ensures.moves_up_and_reduces (ap (λ (b : Bool). cond b g 0) y.if-is_set.ensures.the_bit_there)
     ] in
-    runs.turn (times_x n g) g c.loop-skip.register c.if-is_set.register w i c.args.count (checks_number C (take c.args.count w)) c.loop-skip-test.true c.requires.enough v c.loop-skip.invariant
+    runs.turn (times_x n g) g 0 c.loop-skip.register c.if-is_set.register w i (omega (arith, c.loop-skip-test.true, c.requires.enough)) v c.loop-skip.invariant
 
 pub returns : goal.returns
 returns c =
-    let C = c.args.self in
-    let n = generator_top C in
-    let g = generator_tail C in
-    let w = bits c.args.bytes.now in
     record {
-      of_those_bits =
-          runs.end (times_x n g) g c.loop-skip.register w c.loop-skip.skip c.args.count (checks_number C (take c.args.count w))
-          c.loop-skip-test.false c.requires.enough c.loop-skip.invariant;
+      of_those_bits = c.loop-skip.invariant
+          ∙ ap (λ (k : ℕ). checks_number c.args.self (take k (bits c.args.bytes.now))) (let e : c.loop-skip.skip ≡ c.args.count = omega arith in e);
     }
