@@ -1,18 +1,18 @@
 -- What the search does to a word: the bits that it flips lead to the codeword at most t bits away, if there is one.
-use Rattle.std.proofs.Common.{◌≡◌, ℕ, zero, suc, ◌+◌, ◌<◌, ◌≤◌, Bool, List, [], ◌∷◌, length, take, drop, sym, refl, ap, ◌∙◌, subst, arith}
-use Rattle.std.proofs.lemmas.List.{length-take-le}
+use Rattle.std.proofs.Common.{◌≡◌, ℕ, zero, suc, ◌+◌, ◌<◌, ◌≤◌, Bool, ◌≢◌, List, [], ◌∷◌, length, take, drop, sym, refl, ap, ◌∙◌, subst, ap₂, arith}
+use Rattle.std.proofs.lemmas.List.{length-take, length-take-le}
 use Rattle.gf2.specs.declared.field.Field.{Field}
-use Rattle.gf2.specs.Words.{plus, add, weight}
+use Rattle.gf2.specs.Words.{plus, add, weight, bits_of}
 use Rattle.gf2.specs.Fields.{width, product, power, alpha}
 use Rattle.gf2.proofs.Five as five
-use Rattle.gf2.proofs.Sums.{add_nil, add_assoc, add_self, add_zeros, add_back}
+use Rattle.gf2.proofs.Sums.{add_length, add_nil, add_assoc, add_self, add_zeros, add_back}
 use Rattle.gf2.proofs.Vandermonde as v
 use Rattle.gf2.proofs.WordLaws.{distance_is_a_metric}
-use Rattle.inner.specs.Nearest.{Near, Corrected, LeftAlone}
 use Rattle.bch.specs.declared.code.Bch.{Bch}
 use Rattle.bch.specs.Code.{syndrome}
 use Rattle.bch.specs.InnerLaws.{WordOf}
-use Rattle.bch.specs.Settings.{field, errors, word_bits}
+use Rattle.bch.specs.Nearest.{Near, Corrected, LeftAlone}
+use Rattle.bch.specs.Settings.{field, errors, word_bits, check_bits, rest}
 use Rattle.bch.specs.Elimination.{met_all, sequence, unit_rows}
 use Rattle.bch.specs.Decoding.{all_vanish, inverse_or_0, root_at, root_marks}
 use Rattle.bch.specs.Theory.AnyPoints.{locator_sum}
@@ -21,6 +21,7 @@ use Rattle.bch.specs.Theory.Tested.{tested}
 use Rattle.bch.specs.Theory.Decoder as decoder
 use Rattle.bch.specs.Theory.Flips.{marks_ext, marks_length}
 use Rattle.bch.proofs.Padded.{same_roots}
+use Rattle.bch.proofs.Rest.{same_syndromes, codeword, no_codeword}
 use Rattle.bch.specs.Theory.AnyPoints.{units, flips}
 
 -- the marks are the decoder's flips
@@ -57,65 +58,88 @@ add_twice : (w e : List Bool) → length e ≤ length w → add (add w e) e ≡ 
 add_twice w e h = add_assoc w e e ∙ ap (add w) (add_self e) ∙ add_zeros w (length e) h
 
 -- a codeword stays as it is
-pub unchanged : (C : Bch) (w : List Bool) → word_bits C ≤ length w → WordOf C (take (word_bits C) w) → Corrected (word_bits C) (errors C) (WordOf C) w w 0
-unchanged C w h code =
+pub unchanged : (C : Bch) (w : List Bool) → word_bits C ≤ length w → rest C w ≡ 0 → Corrected C w w 0
+unchanged C w h z =
     let none = distance_is_a_metric.none_from_itself (take (word_bits C) w) in
-    record { enough = h; near = record { code = code; near = omega arith }; counts = sym none; rest = refl }
+    record { enough = h; near = record { code = codeword C w h z; near = omega arith }; counts = sym none; rest = refl }
 
--- what a code's search did to the bits before, by its steps
-module _ (C : Bch) (before : List Bool) (s : List ℕ) (ps : List (List ℕ)) (enough : word_bits C ≤ length before)
-    (agree : (j : ℕ) → 1 ≤ j → j ≤ errors C + errors C → sequence s j ≡ syndrome (field C) (take (word_bits C) before) j)
-    (solved : ps ≡ met_all (product (field C)) (inverse_or_0 (field C)) (sequence s) (errors C) 1 (take (errors C + 1) unit_rows))
-    (after : List Bool) (flipped : after ≡ add before (root_marks (field C) ps (word_bits C))) where
+-- the search flipped marked bits, and where there is a codeword at most t bits away the marks lead to it
+pub record Search (C : Bch) (before after : List Bool) (marked : List Bool) : Type 0 where
+  pub enough : word_bits C ≤ length before
+  pub long : length marked ≡ word_bits C
+  pub flipped : after ≡ add before marked
+  pub leads : (c : List Bool) → Near C (take (word_bits C) before) c → marked ≡ add (take (word_bits C) before) c
+
+-- by its steps: r is what the check bits add up to with those that the data ask for, s its syndromes, and ps what the elimination leaves
+pub searched : (C : Bch) (before after : List Bool) (F : Field) (s : List ℕ) (r t : ℕ) (ps : List (List ℕ)) → word_bits C ≤ length before
+    → F ≡ field C → t ≡ errors C → r ≡ rest C before → ((j : ℕ) → j < 11 → sequence s j ≡ syndrome (field C) (bits_of (check_bits C) r) j)
+    → ps ≡ met_all (product F) (inverse_or_0 F) (sequence s) t 1 (take (t + 1) unit_rows)
+    → after ≡ add before (root_marks (field C) ps (word_bits C)) → Search C before after (root_marks (field C) ps (word_bits C))
+searched C before after F s r t ps enough eF et er each left flipped = record {
+  enough = enough;
+  long = marks_length (root_at K ps) n;
+  flipped = flipped;
+  leads = λ c q.
+      ap (root_marks K ps) (sym long) ∙ flips_are K (errors C) (tested C).few s w agree ps solved
+      ∙ decoder.finds (width K) (product K) (five.field K) (inverse_or_0 K) (points.inverts K) (power K alpha) (points.count K) (points.points K) (points.apart K)
+      (errors C) w c (omega (arith, long, (tested C).short)) (q.code.long ∙ sym long) (λ j a b. points.sum_is_syndrome K c j ∙ q.code.code j a b) q.near;
+}
+  where
+    K : Field
+    K = field C
+
+    n : ℕ
+    n = word_bits C
+
+    w : List Bool
+    w = take n before
+
+    long : length w ≡ n
+    long = length-take-le n before enough
+
+    agree : (j : ℕ) → 1 ≤ j → j ≤ errors C + errors C → sequence s j ≡ syndrome K w j
+    agree j l u =
+        each j (omega (arith, (tested C).few)) ∙ ap (λ (x : ℕ). syndrome K (bits_of (check_bits C) x) j) er ∙ same_syndromes C before enough j l u
+
+    solved : ps ≡ met_all (product K) (inverse_or_0 K) (sequence s) (errors C) 1 (take (errors C + 1) unit_rows)
+    solved = left ∙ ap₂ (λ (G : Field) (u : ℕ). met_all (product G) (inverse_or_0 G) (sequence s) u 1 (take (u + 1) unit_rows)) eF et
+
+module _ (C : Bch) (before after marked : List Bool) (f : Search C before after marked) where
   long : length (take (word_bits C) before) ≡ word_bits C
-  long = length-take-le (word_bits C) before enough
+  long = length-take-le (word_bits C) before f.enough
 
-  marked : length (root_marks (field C) ps (word_bits C)) ≡ word_bits C
-  marked = marks_length (root_at (field C) ps) (word_bits C)
-
-  front : take (word_bits C) after ≡ add (take (word_bits C) before) (root_marks (field C) ps (word_bits C))
-  front = ap (take (word_bits C)) flipped ∙ take_add (word_bits C) before (root_marks (field C) ps (word_bits C)) enough marked
+  front : take (word_bits C) after ≡ add (take (word_bits C) before) marked
+  front = ap (take (word_bits C)) f.flipped ∙ take_add (word_bits C) before marked f.enough f.long
 
   -- the marks are the bits in which the two differ
-  differ : add (take (word_bits C) before) (take (word_bits C) after) ≡ root_marks (field C) ps (word_bits C)
-  differ = ap (add (take (word_bits C) before)) front ∙ add_back (take (word_bits C) before) (root_marks (field C) ps (word_bits C)) (long ∙ sym marked)
+  differ : add (take (word_bits C) before) (take (word_bits C) after) ≡ marked
+  differ = ap (add (take (word_bits C) before)) front ∙ add_back (take (word_bits C) before) marked (long ∙ sym f.long)
 
-  pub accepted : (flips : ℕ) → flips ≡ weight (root_marks (field C) ps (word_bits C)) → flips ≤ errors C → WordOf C (take (word_bits C) after)
-      → Corrected (word_bits C) (errors C) (WordOf C) before after flips
-  accepted flips count low code = record {
-    enough = enough;
-    near = record { code = code; near = subst (λ (n : ℕ). n ≤ errors C) (count ∙ ap weight (sym differ)) low };
+  pub still_enough : word_bits C ≤ length after
+  still_enough =
+      omega (arith, length-take (word_bits C) after, ap length front, add_length (take (word_bits C) before) marked (long ∙ sym f.long), long)
+
+  pub accepted : (flips : ℕ) → flips ≡ weight marked → flips ≤ errors C → rest C after ≡ 0 → Corrected C before after flips
+  accepted flips count low z = record {
+    enough = f.enough;
+    near = record { code = codeword C after still_enough z; near = subst (λ (n : ℕ). n ≤ errors C) (count ∙ ap weight (sym differ)) low };
     counts = count ∙ ap weight (sym differ);
-    rest = ap (drop (word_bits C)) flipped ∙ drop_add (word_bits C) before (root_marks (field C) ps (word_bits C)) enough marked;
+    rest = ap (drop (word_bits C)) f.flipped ∙ drop_add (word_bits C) before marked f.enough f.long;
   }
-
-  -- where there is a codeword at most t bits away, the flips lead to it
-  leads : (c : List Bool) → Near (errors C) (WordOf C) (take (word_bits C) before) c
-      → root_marks (field C) ps (word_bits C) ≡ add (take (word_bits C) before) c
-  leads c q =
-      let F = field C in
-      ap (root_marks F ps) (sym long)
-      ∙ flips_are F (errors C) (tested C).few s (take (word_bits C) before) agree ps solved
-      ∙ decoder.finds (width F) (product F) (five.field F) (inverse_or_0 F) (points.inverts F) (power F alpha) (points.count F) (points.points F) (points.apart F)
-      (errors C) (take (word_bits C) before) c (omega (arith, long, (tested C).short)) (q.code.long ∙ sym long)
-      (λ j a b. points.sum_is_syndrome F c j ∙ q.code.code j a b) q.near
 
   -- flipped once more, where the outcome is no codeword at most t bits away
-  again : (last : List Bool) → last ≡ add after (root_marks (field C) ps (word_bits C)) → last ≡ before
-  again last e = e ∙ ap (λ (w : List Bool). add w (root_marks (field C) ps (word_bits C))) flipped
-      ∙ add_twice before (root_marks (field C) ps (word_bits C)) (omega (arith, marked))
+  again : (last : List Bool) → last ≡ add after marked → last ≡ before
+  again last e = e ∙ ap (λ (w : List Bool). add w marked) f.flipped ∙ add_twice before marked (omega (arith, f.long, f.enough))
 
-  pub too_many_flips : (flips : ℕ) → flips ≡ weight (root_marks (field C) ps (word_bits C)) → errors C < flips
-      → (last : List Bool) → last ≡ add after (root_marks (field C) ps (word_bits C)) → LeftAlone (word_bits C) (errors C) (WordOf C) before last
+  pub too_many_flips : (flips : ℕ) → flips ≡ weight marked → errors C < flips → (last : List Bool) → last ≡ add after marked → LeftAlone C before last
   too_many_flips flips count high last e = record {
     same = again last e;
-    none = λ h c q. omega (arith, q.near, ap weight (leads c q));
+    none = λ h c q. omega (arith, q.near, ap weight (f.leads c q));
   }
 
-  pub not_a_codeword : (WordOf C (take (word_bits C) after) → ⊥)
-      → (last : List Bool) → last ≡ add after (root_marks (field C) ps (word_bits C)) → LeftAlone (word_bits C) (errors C) (WordOf C) before last
-  not_a_codeword outside last e = record {
+  pub not_a_codeword : rest C after ≢ 0 → (last : List Bool) → last ≡ add after marked → LeftAlone C before last
+  not_a_codeword ne last e = record {
     same = again last e;
-    none = λ h c q. outside (subst (WordOf C)
-        (sym (front ∙ ap (add (take (word_bits C) before)) (leads c q) ∙ add_back (take (word_bits C) before) c (long ∙ sym q.code.long))) q.code);
+    none = λ h c q. no_codeword C after still_enough ne
+        (subst (WordOf C) (sym (front ∙ ap (add (take (word_bits C) before)) (f.leads c q) ∙ add_back (take (word_bits C) before) c (long ∙ sym q.code.long))) q.code);
   }

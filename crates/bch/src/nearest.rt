@@ -3,9 +3,6 @@ ghost use Rattle.gf2.specs.Words.{bits};
 ghost use Rattle.bch.specs.Nearest.{Nearest};
 
 use crate::code::Bch;
-use crate::eliminate::solve;
-use crate::roots::flip_roots;
-use crate::syndrome::syndromes;
 use gf2::bits::holds;
 
 impl Bch {
@@ -14,10 +11,7 @@ impl Bch {
     pub fn nearest(self, word: &mut [u8]) -> Option<usize>
         ensures the_codeword_at_most_t_bits_away_or_none { Nearest self (bits word.old) (bits word.new) result }
     {
-        let field = self.field();
-        let count = self.word_bits();
-        let t = self.errors();
-        if !holds(word, count) {
+        if !holds(word, self.word_bits()) {
             return None;
         }
         let rest = self.rest(word);
@@ -25,13 +19,12 @@ impl Bch {
             return Some(0);
         }
         // The word differs from a codeword by the rest alone, so the two have the same syndromes.
-        let sums = syndromes(field, rest, self.degree(), t);
-        let left = solve(field, &sums, t);
-        let flips = flip_roots(field, &left, word, count);
-        if flips <= t && self.rest(word) == 0 {
+        let left = self.syndromes(rest).solve(self.errors());
+        let flips = self.flip_roots(&left, word);
+        if flips <= self.errors() && self.rest(word) == 0 {
             return Some(flips);
         }
-        let _ = flip_roots(field, &left, word, count);
+        let _ = self.flip_roots(&left, word);
         None
     }
 }

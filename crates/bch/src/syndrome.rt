@@ -1,11 +1,16 @@
 // The values of a polynomial at the powers of alpha.
-ghost use Rattle.std.specs.Prelude.{◌≡◌, ℕ, ◌+◌, ◌<◌, ◌≤◌, slice_index};
+ghost use Rattle.std.specs.Prelude.{◌≡◌, ℕ, ◌<◌};
 ghost use Rattle.gf2.specs.Fields.{alpha, product, power};
 ghost use Rattle.gf2.specs.Product.{times_x};
 ghost use Rattle.gf2.specs.Words.{bits_of};
 ghost use Rattle.bch.specs.Code.{syndrome as syndrome_of};
+ghost use Rattle.bch.specs.Elimination.{sequence};
+ghost use Rattle.bch.specs.Settings.{field, check_bits};
 
+use crate::code::Bch;
+use crate::eliminate::Sequence;
 use gf2::field::Field;
+use std::array;
 
 // x times a modulo x^(top+1) + tail. Both outcomes are at hand before the test, so that it needs no jump.
 fn times_x(a: u16, top: u32, tail: u16) -> u16
@@ -30,30 +35,30 @@ pub(crate) fn times_power(field: Field, a: u16, k: usize) -> u16
     moved
 }
 
-// The polynomial of the `count` low bits of a number at alpha^j.
-fn syndrome(field: Field, number: u128, count: usize, j: usize) -> u16
-    requires few { count ≤ 127 }
-    ensures value_at_that_power { result ≡ syndrome_of field (bits_of count number) j }
-{
-    let mut sum = 0;
-    for i in 0..count {
-        sum = times_power(field, sum, j);
-        if (number >> (count - 1 - i)) & 1 == 1 {
-            sum = sum ^ 1;
+impl Bch {
+    // The polynomial of the check bits that a number is at alpha^j.
+    fn syndrome(self, number: u128, j: usize) -> u16
+        ensures value_at_that_power { result ≡ syndrome_of (field self) (bits_of (check_bits self) number) j }
+    {
+        let field = self.field();
+        let mut sum = 0;
+        for place in (0..self.degree()).rev() {
+            sum = times_power(field, sum, j);
+            if (number >> place) & 1 == 1 {
+                sum = sum ^ 1;
+            }
+        }
+        sum
+    }
+
+    // The syndromes 0 to 10.
+    pub(crate) fn syndromes(self, number: u128) -> Sequence
+        ensures in_the_field { result.field ≡ field self }
+        ensures each_at_its_index { (j : ℕ) → j < 11 → sequence result.members j ≡ syndrome_of (field self) (bits_of (check_bits self) number) j }
+    {
+        Sequence {
+            field: self.field(),
+            members: array::from_fn(|j| self.syndrome(number, j)),
         }
     }
-    sum
-}
-
-// The syndromes 1 to 2t, each at its own index.
-pub(crate) fn syndromes(field: Field, number: u128, count: usize, t: usize) -> [u16; 11]
-    requires few { count ≤ 127 }
-    requires inside { t < 6 }
-    ensures one_to_twice_t { (j : ℕ) → 1 ≤ j → j ≤ t + t → slice_index result j ≡ syndrome_of field (bits_of count number) j }
-{
-    let mut all = [0; 11];
-    for j in 1..t + t + 1 {
-        all[j] = syndrome(field, number, count, j);
-    }
-    all
 }
