@@ -1,12 +1,13 @@
 -- The five fields: for each one test that runs through the powers of x.
-use Rattle.std.proofs.Common.{◌≡◌, ℕ, suc, ◌-◌, ◌^◌, ◌<◌, ◌≤◌, Bool, true, false, cond, T, eqb, ◌≢◌, Some, None, Option, sym, refl, ap, ◌∙◌, arith, lit<, lit≤}
+use Rattle.std.proofs.Common.{◌≡◌, ℕ, suc, ◌-◌, ◌^◌, ◌<◌, ◌≤◌, Bool, true, false, cond, T, eqb, ◌≢◌, Some, None, Ok, Option, ok_or, sym, refl, ap, ◌∙◌, arith, lit<, lit≤}
 use Rattle.std.proofs.lemmas.Bool.{eqb-true}
 use Rattle.gf2.specs.declared.field.Field.{Field}
+use Rattle.gf2.specs.declared.field.NoSuchField.{NoSuchField}
 use Rattle.gf2.specs.declared.field.Field.TheVariants.{Three, Five, Eight, Ten, Fourteen}
 use Rattle.gf2.specs.Product.{times_x}
 use Rattle.gf2.proofs.Ring.{shifted, times_x_is_product}
 use Rattle.gf2.proofs.Orbit.{avoids_one}
-use Rattle.gf2.specs.Fields.{top, modulus_tail, width, field_of, element, product, power, IsRing, IsField, AlphaGenerates}
+use Rattle.gf2.specs.Fields.{top, modulus_tail, width, field_of, IsFieldOfWidth, element, product, power, IsRing, IsField, AlphaGenerates}
 use Rattle.gf2.proofs.Algebra.{is_ring, is_field}
 use Rattle.gf2.proofs.Generators as generators
 
@@ -69,6 +70,14 @@ field_of_width m F = at Three (at Five (at Eight (at Ten (at Fourteen none))))
 
     none : None ≡ Some F → width F ≡ m
     none h = let z : ◌≡◌ {A = ℕ} 0 1 = cc in absurd (omega arith)
+
+-- what `Field::try_from` says where it finds a field
+pub field_found : (m : ℕ) (F : Field) → IsFieldOfWidth m (Ok F) → field_of m ≡ Some F
+field_found m F = found (field_of m) (record { 0 = m })
+  where
+    found : (o : Option Field) (e : NoSuchField) → Ok F ≡ ok_or o e → o ≡ Some F
+    found None e h = cc
+    found (Some G) e h = cc
 
 -- and the field with its width is the field
 pub field_of_its_width : (F : Field) → field_of (width F) ≡ Some F

@@ -17,3 +17,4 @@ pub mod Weights
 pub mod WordLaws
 pub mod Overwriting
 pub mod Windows
+pub mod Copying

@@ -1,5 +1,5 @@
 -- A word with a run of bits over some of its own, one bit after the other.
-use Rattle.std.proofs.Common.{◌≡◌, ℕ, zero, suc, ◌+◌, ◌-◌, ◌/◌, ◌%◌, ◌<◌, ◌≤◌, Bool, true, false, cond, leb, List, [], ◌∷◌, ◌++◌, length, get_or, take, drop, set, sym, refl, ap, ◌∙◌, ap₂, arith, length-append, length-drop, take-append-drop, drop-drop}
+use Rattle.std.proofs.Common.{◌≡◌, ℕ, zero, suc, ◌+◌, ◌-◌, ◌*◌, ◌/◌, ◌%◌, ◌<◌, ◌≤◌, Bool, true, false, cond, leb, List, [], ◌∷◌, ◌++◌, length, get_or, take, drop, set, sym, refl, ap, ◌∙◌, ap₂, arith, length-append, length-drop, take-append-drop, drop-drop}
 use borrow.Rule.Slice.PartMut.{put_mid}
 use lib.Seq.{take-append-add}
 use Rattle.std.proofs.lemmas.List.{append_assoc, append-nil, drop_all, drop_at, length-take-le, set-append_right, take_all}
@@ -55,19 +55,24 @@ run_behind at r u v =
     (ap (λ (n : ℕ). drop n (u ++ v)) (let e : length u + at + length r ≡ length u + (at + length r) = omega arith in e)
     ∙ sym (drop-drop (at + length r) (length u) (u ++ v)) ∙ ap (drop (at + length r)) (drop_at u v (length u) refl)))
 
--- a run over the bits of the bytes from the one where it begins
-pub run_in_bytes : (bs ys : List ℕ) (s : ℕ) (r : List Bool) → s / 8 ≤ length bs → bits ys ≡ with_run (s % 8) r (bits (take (length bs - s / 8) (drop (s / 8) bs)))
-    → bits (put_mid (s / 8) (length bs - s / 8) bs ys) ≡ with_run s r (bits bs)
-run_in_bytes bs ys s r h e =
-    let a = s / 8 in
+-- a run over the bits of the bytes from one of them on
+pub run_from_byte : (bs ys : List ℕ) (a o : ℕ) (r : List Bool) → a ≤ length bs → bits ys ≡ with_run o r (bits (take (length bs - a) (drop a bs)))
+    → bits (put_mid a (length bs - a) bs ys) ≡ with_run (a * 8 + o) r (bits bs)
+run_from_byte bs ys a o r h e =
     let u = take a bs in
     let d = drop a bs in
     ap (λ (z : List ℕ). bits (u ++ (ys ++ z))) (drop_all (length bs - a) d (omega (arith, length-drop a bs)))
     ∙ ap (λ (z : List ℕ). bits (u ++ z)) (append-nil ys) ∙ bits_append u ys
-    ∙ ap (λ (w : List Bool). bits u ++ w) (e ∙ ap (λ (z : List ℕ). with_run (s % 8) r (bits z)) (take_all (length bs - a) d (omega (arith, length-drop a bs))))
-    ∙ run_behind (s % 8) r (bits u) (bits d)
-    ∙ ap₂ (λ (i : ℕ) (w : List Bool). with_run i r w) (let i : length (bits u) + s % 8 ≡ s = omega (arith, bits_length u, length-take-le a bs h) in i)
+    ∙ ap (λ (w : List Bool). bits u ++ w) (e ∙ ap (λ (z : List ℕ). with_run o r (bits z)) (take_all (length bs - a) d (omega (arith, length-drop a bs))))
+    ∙ run_behind o r (bits u) (bits d)
+    ∙ ap₂ (λ (i : ℕ) (w : List Bool). with_run i r w) (let i : length (bits u) + o ≡ a * 8 + o = omega (arith, bits_length u, length-take-le a bs h) in i)
     (sym (bits_append u d) ∙ ap bits (take-append-drop a bs))
+
+-- the same from the byte where the run begins
+pub run_in_bytes : (bs ys : List ℕ) (s : ℕ) (r : List Bool) → s / 8 ≤ length bs → bits ys ≡ with_run (s % 8) r (bits (take (length bs - s / 8) (drop (s / 8) bs)))
+    → bits (put_mid (s / 8) (length bs - s / 8) bs ys) ≡ with_run s r (bits bs)
+run_in_bytes bs ys s r h e =
+    run_from_byte bs ys (s / 8) (s % 8) r h e ∙ ap (λ (i : ℕ). with_run i r (bits bs)) (let i : s / 8 * 8 + s % 8 ≡ s = omega arith in i)
 
 pub room_there : (w : List Bool) (s k : ℕ) → k ≤ 128 → s + k ≤ length w → room_for w s k ≡ true
 room_there w s k few h = ap (λ (b : Bool). cond b (leb (s + k) (length w)) false) (le-leb k 128 few) ∙ le-leb (s + k) (length w) h

@@ -1,7 +1,8 @@
 -- Where the bits of bytes stand.
-use Rattle.std.proofs.Common.{◌≡◌, ℕ, zero, suc, ◌+◌, ◌-◌, ◌*◌, ◌/◌, ◌%◌, ◌^◌, ◌<◌, ◌≤◌, Bool, false, not, eqb, List, [], ◌∷◌, ◌++◌, length, get_or, take, drop, set, sym, refl, ap, ◌∙◌, append_assoc, suc-mul, arith, length-append, take-append-drop, drop-drop, take_at, drop_at}
+use Rattle.std.proofs.Common.{◌≡◌, ℕ, zero, suc, ◌+◌, ◌-◌, ◌*◌, ◌/◌, ◌%◌, ◌^◌, ◌<◌, ◌≤◌, Bool, true, false, not, eqb, leb, List, [], ◌∷◌, ◌++◌, length, get_or, take, drop, set, sym, refl, ap, ◌∙◌, lt_of_not-le, append_assoc, suc-mul, arith, length-append, length-drop, take-append-drop, drop-drop, take_at, drop_at}
 use lib.Bits.{bit_xor, xor_comm}
-use Rattle.std.proofs.lemmas.List.{drop_all, length-take-le, get_or_append_left, get_or-append_right, set-append_left, set-append_right}
+use Rattle.std.proofs.lemmas.List.{drop_all, take_all, length-take-le, get_or_append_left, get_or-append_right, set-append_left, set-append_right}
+use Rattle.std.proofs.lemmas.Bool.{leb-true, leb-false, le-leb, lt-leb}
 use Rattle.gf2.specs.Words.{bits_of, bits}
 use Rattle.gf2.proofs.Sums.{bits_of_length}
 use Rattle.gf2.proofs.Digits.{bits_of_xor, bits_of_at, bits_of_turned}
@@ -10,6 +11,14 @@ pub bits_length : (bs : List ℕ) → length (bits bs) ≡ length bs * 8
 unfolding bits
 bits_length [] = refl
 bits_length (b ∷ bs) = omega (arith, length-append (bits_of 8 b) (bits bs), bits_of_length 8 b, bits_length bs)
+
+-- two tests that hold together
+pub same_test : (a b c d : ℕ) → (a ≤ b → c ≤ d) → (c ≤ d → a ≤ b) → leb a b ≡ leb c d
+same_test a b c d to from = go (leb a b) refl
+  where
+    go : (t : Bool) → leb a b ≡ t → t ≡ leb c d
+    go true e = sym (le-leb c d (to (leb-true a b e)))
+    go false e = sym (lt-leb c d (lt_of_not-le (λ h. let l = from h in let m = leb-false a b e in omega arith)))
 
 pub bits_append : (cs bs : List ℕ) → bits (cs ++ bs) ≡ bits cs ++ bits bs
 unfolding bits
@@ -53,3 +62,10 @@ bits_set (b ∷ bs) (suc j) o hj ho =
     ap (λ (w : List Bool). bits_of 8 b ++ w)
     (bits_set bs j o (omega arith) ho ∙ ap (λ (i : ℕ). set (bits bs) i v) (let e : j * 8 + o ≡ suc j * 8 + o - 8 = omega (arith, suc-mul j 8) in e))
     ∙ sym (set-append_right (bits_of 8 b) (bits bs) 8 (suc j * 8 + o) v (bits_of_length 8 b) (omega (arith, suc-mul j 8)))
+
+-- the bits of bytes from the one where bit s stands
+pub bits_from : (bs : List ℕ) (s : ℕ) → s / 8 ≤ length bs → drop (s % 8) (bits (take (length bs - s / 8) (drop (s / 8) bs))) ≡ drop s (bits bs)
+bits_from bs s h =
+    ap (λ (r : List ℕ). drop (s % 8) (bits r)) (take_all (length bs - s / 8) (drop (s / 8) bs) (omega (arith, length-drop (s / 8) bs)))
+    ∙ ap (drop (s % 8)) (bits_drop (s / 8) bs) ∙ drop-drop (s % 8) (s / 8 * 8) (bits bs)
+    ∙ ap (λ (n : ℕ). drop n (bits bs)) (let e : s / 8 * 8 + s % 8 ≡ s = omega arith in e)

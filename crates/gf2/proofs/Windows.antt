@@ -1,9 +1,10 @@
 -- The number of a short run of bits, read from the three bytes in which it lies.
-use Rattle.std.proofs.Common.{◌≡◌, ℕ, zero, suc, ◌+◌, ◌-◌, ◌*◌, ◌/◌, ◌%◌, ◌^◌, ◌<◌, ◌≤◌, Bool, eqb, List, [], ◌∷◌, ◌++◌, length, get_or, take, drop, sym, refl, ap, ◌∙◌, ap₂, append_assoc, mod-lt, arith, length-drop, take-append-drop, drop-drop, pow_pos, shr-shr}
+use Rattle.std.proofs.Common.{◌≡◌, ℕ, zero, suc, ◌+◌, ◌-◌, ◌*◌, ◌/◌, ◌%◌, ◌^◌, ◌<◌, ◌≤◌, Bool, true, false, cond, leb, eqb, List, [], ◌∷◌, ◌++◌, length, get_or, take, drop, Some, None, Option, sym, refl, ap, ◌∙◌, ap₂, append_assoc, mod-lt, arith, length-drop, take-append-drop, drop-drop, pow_pos, shr-shr}
 use lib.Seq.{take-append-le}
 use Rattle.std.proofs.lemmas.Nat.{shr_high, mod_low}
 use Rattle.std.proofs.lemmas.List.{drop-take, get_or-drop}
-use Rattle.gf2.specs.Words.{number, bits_of, bits}
+use Rattle.std.proofs.lemmas.Bool.{le-leb, lt-leb}
+use Rattle.gf2.specs.Words.{number, bits_of, bits, number_within}
 use Rattle.gf2.proofs.Sums.{bits_of_length}
 use Rattle.gf2.proofs.Digits.{bits_of_mod, number_bits_of}
 use Rattle.gf2.proofs.Places.{bits_append, bits_drop}
@@ -97,3 +98,24 @@ run_number bs s k low some few fit =
 
     value : number (bits_of k (N / 2 ^ j)) ≡ N / 2 ^ j % 2 ^ k
     value = ap number (sym (bits_of_mod k (N / 2 ^ j))) ∙ number_bits_of k (N / 2 ^ j % 2 ^ k) (mod-lt (N / 2 ^ j) (pow_pos k))
+
+-- a word that ends before the bits has no such number
+pub no_number : (limit : ℕ) (w : List Bool) (s k : ℕ) → length w < s + k → None ≡ number_within limit w s k
+no_number limit w s k h =
+    sym
+    (ap (λ (b : Bool). cond (leb 1 k) (cond (leb k limit) (cond b (Some (number (take k (drop s w)))) None) None) None) (lt-leb (s + k) (length w) h)
+    ∙ same (leb 1 k) (leb k limit))
+  where
+    same : (a b : Bool) → ◌≡◌ {A = Option ℕ} (cond a (cond b None None) None) None
+    same true true = refl
+    same true false = refl
+    same false b = refl
+
+pub that_number : (limit : ℕ) (w : List Bool) (s k : ℕ) → 1 ≤ k → k ≤ limit → s + k ≤ length w → Some (number (take k (drop s w))) ≡ number_within limit w s k
+that_number limit w s k low high fit =
+    sym
+    (ap (λ (b : Bool). cond b (cond (leb k limit) (cond (leb (s + k) (length w)) (Some n) None) None) None) (le-leb 1 k low)
+    ∙ ap₂ (λ (a b : Bool). cond a (cond b (Some n) None) None) (le-leb k limit high) (le-leb (s + k) (length w) fit))
+  where
+    n : ℕ
+    n = number (take k (drop s w))

@@ -1,7 +1,8 @@
 -- The five binary fields. An element of the field of 2^m elements is m bits, the coefficients from x^(m-1) down to 1; alpha is x, the number 2.
-use Rattle.std.specs.Prelude.{◌≡◌, ℕ, suc, ◌-◌, ◌%◌, ◌^◌, ◌<◌, ◌≤◌, cond, ◌≢◌, List, length, Some, None, Option, ◌==◌, bit_xor, slice_index, slice_index_or}
+use Rattle.std.specs.Prelude.{◌≡◌, ℕ, suc, ◌-◌, ◌%◌, ◌^◌, ◌<◌, ◌≤◌, cond, ◌≢◌, List, length, Some, None, Option, Result, ok_or, ◌==◌, bit_xor, slice_index, slice_index_or}
 use Rattle.gf2.specs.Polynomials.{power as power_under}
 use Rattle.gf2.specs.declared.field.Field.{Field}
+use Rattle.gf2.specs.declared.field.NoSuchField.{NoSuchField}
 use Rattle.gf2.specs.declared.field.Field.TheVariants.{Three, Five, Eight, Ten, Fourteen}
 use Rattle.gf2.specs.Product.{times}
 
@@ -29,6 +30,10 @@ width F = suc (top F)
 abbrev pub field_of : ℕ → Option Field
 field_of m =
     cond (m == 3) (Some Three) (cond (m == 5) (Some Five) (cond (m == 8) (Some Eight) (cond (m == 10) (Some Ten) (cond (m == 14) (Some Fourteen) None))))
+
+-- the field whose elements have m bits, or the width m that none has
+abbrev pub IsFieldOfWidth : ℕ → Result Field NoSuchField → Type 0
+IsFieldOfWidth m r = r ≡ ok_or (field_of m) (record { 0 = m })
 
 -- the element that a number stands for: its low m bits
 abbrev pub element : Field → ℕ → ℕ

@@ -54,10 +54,14 @@ flipped (b ∷ w) (suc (suc i)) = b ∷ flipped w (suc i)
 abbrev pub byte_distance : List ℕ → List ℕ → Option ℕ
 byte_distance a b = cond (length a == length b) (Some (distance (bits a) (bits b))) None
 
--- the number that the k bits behind the first s make, or none where k is not 1 to 16 or the word ends before them
+-- the number that the k bits behind the first s make, or none where k is not 1 to the limit or the word ends before them
+abbrev pub number_within : ℕ → List Bool → ℕ → ℕ → Option ℕ
+number_within limit w s k =
+    cond (nat_le 1 k) (cond (nat_le k limit) (cond (nat_le (s + k) (length w)) (Some (number (take k (drop s w)))) None) None) None
+
+-- the same of at most 16 bits
 abbrev pub number_behind : List Bool → ℕ → ℕ → Option ℕ
-number_behind w s k =
-    cond (nat_le 1 k) (cond (nat_le k 16) (cond (nat_le (s + k) (length w)) (Some (number (take k (drop s w)))) None) None) None
+number_behind = number_within 16
 
 -- the word with a run of bits over those behind the first `at`
 abbrev pub with_run : ℕ → List Bool → List Bool → List Bool
@@ -70,3 +74,11 @@ room_for w s k = cond (nat_le k 128) (nat_le (s + k) (length w)) false
 -- the word with the k low bits of a number, the highest first, over those behind the first s, or as it was where there is no room
 abbrev pub with_number : List Bool → ℕ → ℕ → ℕ → List Bool
 with_number w s k n = cond (room_for w s k) (with_run s (bits_of k n) w) w
+
+-- whether both words have k bits, v behind its first s and w behind its first at
+abbrev pub both_have : ℕ → List Bool → ℕ → List Bool → ℕ → Bool
+both_have k v s w at = cond (nat_le (s + k) (length v)) (nat_le (at + k) (length w)) false
+
+-- the word w with the k bits behind the first s of v over those behind its first `at`, or as it was where one has too few bits
+abbrev pub with_bits_of : ℕ → List Bool → ℕ → List Bool → ℕ → List Bool
+with_bits_of k v s w at = cond (both_have k v s w at) (with_run at (take k (drop s v)) w) w

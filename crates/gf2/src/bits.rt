@@ -1,6 +1,10 @@
 // Bits of bytes, numbered from 1, the most significant of each byte first.
-ghost use Rattle.std.specs.Prelude.{◌≡◌, ◌+◌, ◌-◌, ◌/◌, ◌%◌, ◌^◌, ◌<◌, ◌≤◌, false, length, nat_le, slice_index, slice_index_or, slice_set};
-ghost use Rattle.gf2.specs.Words.{bits, bit_number, flipped, weight as weight_of, byte_distance, number_behind, bits_of, with_run, room_for, with_number};
+ghost use Rattle.std.specs.Prelude.{◌≡◌, ◌+◌, ◌-◌, ◌*◌, ◌/◌, ◌%◌, ◌^◌, ◌<◌, ◌≤◌, MatchBool, false, is_ok, length, nat_le, slice_index, slice_index_or, slice_set};
+ghost use Rattle.gf2.specs.Words.{bits, bit_number, flipped, weight as weight_of, byte_distance, number_behind, number_within, bits_of, with_run, room_for, with_number};
+
+// The bytes end before the bits that were asked for, or these are too many.
+#[derive(Clone, Copy, PartialEq, Eq, Debug)]
+pub struct NoRoom;
 
 // The bit at a place of a byte, counted from 0, the most significant first; the place counts modulo 8.
 fn digit(byte: u8, place: usize) -> u8
@@ -13,11 +17,14 @@ fn digit(byte: u8, place: usize) -> u8
 pub fn holds(bytes: &[u8], count: usize) -> bool
     ensures at_least_that_many_bits { result ≡ nat_le count (length (bits bytes.now)) }
 {
-    if count % 8 == 0 {
-        count / 8 <= bytes.len()
-    } else {
-        count / 8 < bytes.len()
-    }
+    count.div_ceil(8) <= bytes.len()
+}
+
+// Whether the bytes hold `count` bits behind the first `skip`. The two may add up to more than a usize.
+pub(crate) fn hold_behind(bytes: &[u8], skip: usize, count: usize) -> bool
+    ensures at_least_that_many_behind { MatchBool result (skip + count ≤ 8 * length bytes.now) (8 * length bytes.now < skip + count) }
+{
+    skip / 8 + count / 8 + (skip % 8 + count % 8).div_ceil(8) <= bytes.len()
 }
 
 // Whether the bit behind the first `skip` is set; past the end none is.
@@ -104,19 +111,37 @@ pub fn number(bytes: &[u8], skip: usize, count: u32) -> Option<u16>
     if count == 0 || count > 16 {
         return None;
     }
-    let at = skip / 8;
-    let end = (skip % 8) as u32 + count;
-    if at + (end as usize + 7) / 8 > bytes.len() {
+    if !hold_behind(bytes, skip, count as usize) {
         return None;
     }
+    let at = skip / 8;
+    let end = (skip % 8) as u32 + count;
     // At most 23 bits from the first byte's first on, so they lie in three bytes.
     let three = (byte_or_0(bytes, at) * 256 + byte_or_0(bytes, at + 1)) * 256
         + byte_or_0(bytes, at + 2);
     Some(((three >> (24 - end)) & ((1 << count) - 1)) as u16)
 }
 
+// The number that `count` bits make, 1 to 128 of them, behind the first `skip`, the first bit the highest; none where the bytes end before.
+pub fn wide_number(bytes: &[u8], skip: usize, count: u32) -> Option<u128>
+    ensures number_of_those_bits { result ≡ number_within 128 (bits bytes.now) skip count }
+{
+    if count == 0 || count > 128 {
+        return None;
+    }
+    if !hold_behind(bytes, skip, count as usize) {
+        return None;
+    }
+    let bytes = &bytes[skip / 8..];
+    let mut value = 0;
+    for place in 0..count as usize {
+        value = value * 2 + u128::from(is_set(bytes, skip % 8 + place));
+    }
+    Some(value)
+}
+
 // Writes the `count` low bits of a number, the highest first, over those behind the first `skip`, which is below 8.
-fn write_number(bytes: &mut [u8], skip: usize, count: u32, number: u128)
+pub(crate) fn write_number(bytes: &mut [u8], skip: usize, count: u32, number: u128)
     requires room { skip + count ≤ length (bits bytes.old) }
     requires small { (skip < 8) × (count ≤ 128) }
     ensures written { bits bytes.new ≡ with_run skip (bits_of count number) (bits bytes.old) }
@@ -131,17 +156,17 @@ fn write_number(bytes: &mut [u8], skip: usize, count: u32, number: u128)
 }
 
 // Writes the `count` low bits of a number, the highest first, over those behind the first `skip`. Where the bytes end before or the count is above
-// 128, nothing changes and the answer is false.
-pub fn put_number(bytes: &mut [u8], skip: usize, count: u32, number: u128) -> bool
-    ensures accepts_where_there_is_room { result ≡ room_for (bits bytes.old) skip count }
+// 128, nothing changes.
+pub fn put_number(bytes: &mut [u8], skip: usize, count: u32, number: u128) -> Result<(), NoRoom>
+    ensures accepts_where_there_is_room { is_ok result ≡ room_for (bits bytes.old) skip count }
     ensures only_those_bits_are_set_so { bits bytes.new ≡ with_number (bits bytes.old) skip count number }
 {
     if count > 128 {
-        return false;
+        return Err(NoRoom);
     }
-    if skip / 8 + (skip % 8 + count as usize + 7) / 8 > bytes.len() {
-        return false;
+    if !hold_behind(bytes, skip, count as usize) {
+        return Err(NoRoom);
     }
     write_number(&mut bytes[skip / 8..], skip % 8, count, number);
-    true
+    Ok(())
 }

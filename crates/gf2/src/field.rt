@@ -1,7 +1,7 @@
 // The five binary fields. An element is a number below 2^m, its bits the coefficients from x^(m-1) down to 1.
 // Of a number that is no element only the low m bits count.
 ghost use Rattle.std.specs.Prelude.{◌≡◌, ◌^◌, ◌<◌, nat_lt};
-ghost use Rattle.gf2.specs.Fields.{width as width_of, modulus_tail, element as element_of, field_of, sum as sum_in, alpha, product as product_in, power as power_in, inverse as inverse_in, IsInverse};
+ghost use Rattle.gf2.specs.Fields.{width as width_of, modulus_tail, element as element_of, sum as sum_in, alpha, product as product_in, power as power_in, inverse as inverse_in, IsInverse, IsFieldOfWidth};
 
 // A field by the bits m of its elements.
 #[derive(Clone, Copy, PartialEq, Eq, Debug)]
@@ -13,21 +13,29 @@ pub enum Field {
     Fourteen,
 }
 
-impl Field {
-    // The field whose elements have m bits; none where m is no width of the five.
-    pub fn of_width(m: u32) -> Option<Field>
-        ensures field_of_that_width { result ≡ field_of m }
-    {
+// The bits of an element that no field of the five has.
+#[derive(Clone, Copy, PartialEq, Eq, Debug)]
+pub struct NoSuchField(pub u32);
+
+// The field whose elements have that many bits.
+impl TryFrom<u32> for Field {
+    type Error = NoSuchField;
+
+    ghost try_from_gives = { IsFieldOfWidth };
+
+    fn try_from(m: u32) -> Result<Field, NoSuchField> {
         match m {
-            3 => Some(Field::Three),
-            5 => Some(Field::Five),
-            8 => Some(Field::Eight),
-            10 => Some(Field::Ten),
-            14 => Some(Field::Fourteen),
-            _ => None,
+            3 => Ok(Field::Three),
+            5 => Ok(Field::Five),
+            8 => Ok(Field::Eight),
+            10 => Ok(Field::Ten),
+            14 => Ok(Field::Fourteen),
+            _ => Err(NoSuchField(m)),
         }
     }
+}
 
+impl Field {
     // m, the bits of an element.
     pub fn width(self) -> u32
         ensures bits_of_an_element { result ≡ width_of self }

@@ -5,5 +5,6 @@ pub mod bits;
 pub mod field;
 pub mod laws;
 pub mod powers;
+pub mod runs;
 #[cfg(test)]
 mod tests;

@@ -1,7 +1,7 @@
 use Rattle.std.proofs.Common.{◌≡◌, ℕ, ◌*◌, ◌/◌, ◌%◌, ◌≤◌, length, Ok, sym, refl, ap, ◌∙◌, arith}
 use Rattle.gf2.specs.Words.{bits}
 use Rattle.gf2.specs.Fields.{width, product, sum}
-use Rattle.gf2.proofs.Five.{field_of_width}
+use Rattle.gf2.proofs.Five.{field_of_width, field_found}
 use Rattle.pagecode.specs.Groups.{groups, sum_of_products, product_behind}
 use Rattle.pagecode.proofs.Pairs.{double, pair_room, turn, whole, pairs_are, answers_f}
 use Rattle.pagecode.proofs.nonlinear.nonlinear_bits.Goals as goal
@@ -15,20 +15,20 @@ overflow_mul-pair c = omega (arith, pair_room c.args.count c.args.width c.loop-p
 
 pub loop-pair-preserved : goal.loop-pair-preserved
 loop-pair-preserved c =
-    let F = c.in-Some.field in
+    let F = c.in_ok-field.field in
     let w = bits c.args.bytes.now in
     let p = c.loop-pair.pair in
-    let m : width F ≡ c.args.width = field_of_width c.args.width F (sym c.in-Some.ensures.field_of_that_width) in
-    let t = turn F w p c.in-Some-pair_product.product
-    (c.in-Some-pair_product.ensures.product_of_the_next_two ∙ ap (λ (r : ℕ). product_behind F w (p * (2 * r))) (sym m)) in
-    (c.sum-sum.ensures.sum_of_the_elements ∙ ap (λ (s : ℕ). sum F s c.in-Some-pair_product.product) c.loop-pair.invariant.0 ∙ t.0, t.1)
+    let m : width F ≡ c.args.width = field_of_width c.args.width F (field_found c.args.width F c.in_ok-field.ensures) in
+    let t = turn F w p c.in_ok-product.product
+    (sym c.in_ok-product.ensures.ok_part ∙ c.pair_product.ensures.product_of_the_next_two ∙ ap (λ (r : ℕ). product_behind F w (p * (2 * r))) (sym m)) in
+    (c.sum-sum.ensures.sum_of_the_elements ∙ ap (λ (s : ℕ). sum F s c.in_ok-product.product) c.loop-pair.invariant.0 ∙ t.0, t.1)
 
 pub returns : goal.returns
 returns c =
-    let F = c.in-Some.field in
+    let F = c.in_ok-field.field in
     let w = bits c.args.bytes.now in
     let k = c.args.count in
-    let is = sym c.in-Some.ensures.field_of_that_width in
+    let is = field_found c.args.width F c.in_ok-field.ensures in
     let m : width F ≡ c.args.width = field_of_width c.args.width F is in
     let even : k % (2 * width F) ≡ 0 = ap (λ (r : ℕ). k % (2 * r)) m ∙ c.if-count-two_groups-ne0.false in
     let all : c.loop-pair.pair ≡ k / (2 * width F) =
