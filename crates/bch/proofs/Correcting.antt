@@ -1,5 +1,7 @@
 -- What the search does to a word: the bits that it flips lead to the codeword at most t bits away, if there is one.
-use Rattle.std.proofs.Common.{◌≡◌, ℕ, zero, suc, ◌+◌, ◌<◌, ◌≤◌, Bool, ◌≢◌, List, [], ◌∷◌, length, take, drop, sym, refl, ap, ◌∙◌, subst, ap₂, arith}
+use Rattle.std.proofs.Common.{true, false, eqb, Some, Option, ◌≡◌, ℕ, zero, suc, ◌+◌, ◌<◌, ◌≤◌, Bool, List, [], ◌∷◌, length, take, drop, sym, refl, ap, ◌∙◌, subst, ap₂, arith}
+use Rattle.std.specs.Option.{option_eq}
+use Rattle.std.proofs.lemmas.Bool.{eqb-false, eqb-true}
 use Rattle.std.proofs.lemmas.List.{length-take, length-take-le}
 use Rattle.gf2.specs.declared.field.Field.{Field}
 use Rattle.gf2.specs.Words.{plus, add, weight, bits_of}
@@ -12,7 +14,7 @@ use Rattle.bch.specs.declared.code.Bch.{Bch}
 use Rattle.bch.specs.Code.{syndrome}
 use Rattle.bch.specs.InnerLaws.{WordOf}
 use Rattle.bch.specs.Nearest.{Near, Corrected, LeftAlone}
-use Rattle.bch.specs.Settings.{field, errors, word_bits, check_bits, rest}
+use Rattle.bch.specs.Settings.{field, errors, word_bits, check_bits, rest, rest_of_first}
 use Rattle.bch.specs.Elimination.{met_all, sequence, unit_rows}
 use Rattle.bch.specs.Decoding.{all_vanish, inverse_or_0, root_at, root_marks}
 use Rattle.bch.specs.Theory.AnyPoints.{locator_sum}
@@ -21,7 +23,7 @@ use Rattle.bch.specs.Theory.Tested.{tested}
 use Rattle.bch.specs.Theory.Decoder as decoder
 use Rattle.bch.specs.Theory.Flips.{marks_ext, marks_length}
 use Rattle.bch.proofs.Padded.{same_roots}
-use Rattle.bch.proofs.Rest.{same_syndromes, codeword, no_codeword}
+use Rattle.bch.proofs.Rest.{same_syndromes, codeword, no_codeword, given, is_0}
 use Rattle.bch.specs.Theory.AnyPoints.{units, flips}
 
 -- the marks are the decoder's flips
@@ -58,10 +60,11 @@ add_twice : (w e : List Bool) → length e ≤ length w → add (add w e) e ≡ 
 add_twice w e h = add_assoc w e e ∙ ap (add w) (add_self e) ∙ add_zeros w (length e) h
 
 -- a codeword stays as it is
-pub unchanged : (C : Bch) (w : List Bool) → word_bits C ≤ length w → rest C w ≡ 0 → Corrected C w w 0
-unchanged C w h z =
+pub unchanged : (C : Bch) (w : List Bool) → Some 0 ≡ rest_of_first C w → Corrected C w w 0
+unchanged C w e =
+    let (h, z) = given C w 0 e in
     let none = distance_is_a_metric.none_from_itself (take (word_bits C) w) in
-    record { enough = h; near = record { code = codeword C w h z; near = omega arith }; counts = sym none; rest = refl }
+    record { enough = h; near = record { code = codeword C w h (sym z); near = omega arith }; counts = sym none; rest = refl }
 
 -- the search flipped marked bits, and where there is a codeword at most t bits away the marks lead to it
 pub record Search (C : Bch) (before after : List Bool) (marked : List Bool) : Type 0 where
@@ -71,11 +74,11 @@ pub record Search (C : Bch) (before after : List Bool) (marked : List Bool) : Ty
   pub leads : (c : List Bool) → Near C (take (word_bits C) before) c → marked ≡ add (take (word_bits C) before) c
 
 -- by its steps: r is what the check bits add up to with those that the data ask for, s its syndromes, and ps what the elimination leaves
-pub searched : (C : Bch) (before after : List Bool) (F : Field) (s : List ℕ) (r t : ℕ) (ps : List (List ℕ)) → word_bits C ≤ length before
-    → F ≡ field C → t ≡ errors C → r ≡ rest C before → ((j : ℕ) → j < 11 → sequence s j ≡ syndrome (field C) (bits_of (check_bits C) r) j)
+pub searched : (C : Bch) (before after : List Bool) (F : Field) (s : List ℕ) (r t : ℕ) (ps : List (List ℕ))
+    → Some r ≡ rest_of_first C before → F ≡ field C → t ≡ errors C → ((j : ℕ) → j < 11 → sequence s j ≡ syndrome (field C) (bits_of (check_bits C) r) j)
     → ps ≡ met_all (product F) (inverse_or_0 F) (sequence s) t 1 (take (t + 1) unit_rows)
     → after ≡ add before (root_marks (field C) ps (word_bits C)) → Search C before after (root_marks (field C) ps (word_bits C))
-searched C before after F s r t ps enough eF et er each left flipped = record {
+searched C before after F s r t ps here eF et each left flipped = record {
   enough = enough;
   long = marks_length (root_at K ps) n;
   flipped = flipped;
@@ -85,6 +88,12 @@ searched C before after F s r t ps enough eF et er each left flipped = record {
       (errors C) w c (omega (arith, long, (tested C).short)) (q.code.long ∙ sym long) (λ j a b. points.sum_is_syndrome K c j ∙ q.code.code j a b) q.near;
 }
   where
+    enough : word_bits C ≤ length before
+    enough = (given C before r here).0
+
+    er : r ≡ rest C before
+    er = (given C before r here).1
+
     K : Field
     K = field C
 
@@ -115,14 +124,15 @@ module _ (C : Bch) (before after marked : List Bool) (f : Search C before after 
   differ : add (take (word_bits C) before) (take (word_bits C) after) ≡ marked
   differ = ap (add (take (word_bits C) before)) front ∙ add_back (take (word_bits C) before) marked (long ∙ sym f.long)
 
-  pub still_enough : word_bits C ≤ length after
+  still_enough : word_bits C ≤ length after
   still_enough =
       omega (arith, length-take (word_bits C) after, ap length front, add_length (take (word_bits C) before) marked (long ∙ sym f.long), long)
 
-  pub accepted : (flips : ℕ) → flips ≡ weight marked → flips ≤ errors C → rest C after ≡ 0 → Corrected C before after flips
-  accepted flips count low z = record {
+  pub accepted : (flips : ℕ) → flips ≡ weight marked → flips ≤ errors C → (o : Option ℕ) → o ≡ rest_of_first C after → true ≡ option_eq eqb o (Some 0)
+      → Corrected C before after flips
+  accepted flips count low o e z = record {
     enough = f.enough;
-    near = record { code = codeword C after still_enough z; near = subst (λ (n : ℕ). n ≤ errors C) (count ∙ ap weight (sym differ)) low };
+    near = record { code = codeword C after still_enough (eqb-true (rest C after) 0 (is_0 C after o true still_enough e z)); near = subst (λ (n : ℕ). n ≤ errors C) (count ∙ ap weight (sym differ)) low };
     counts = count ∙ ap weight (sym differ);
     rest = ap (drop (word_bits C)) f.flipped ∙ drop_add (word_bits C) before marked f.enough f.long;
   }
@@ -137,9 +147,9 @@ module _ (C : Bch) (before after marked : List Bool) (f : Search C before after 
     none = λ h c q. omega (arith, q.near, ap weight (f.leads c q));
   }
 
-  pub not_a_codeword : rest C after ≢ 0 → (last : List Bool) → last ≡ add after marked → LeftAlone C before last
-  not_a_codeword ne last e = record {
+  pub not_a_codeword : (o : Option ℕ) → o ≡ rest_of_first C after → false ≡ option_eq eqb o (Some 0) → (last : List Bool) → last ≡ add after marked → LeftAlone C before last
+  not_a_codeword o is z last e = record {
     same = again last e;
-    none = λ h c q. no_codeword C after still_enough ne
+    none = λ h c q. no_codeword C after still_enough (eqb-false (rest C after) 0 (is_0 C after o false still_enough is z))
         (subst (WordOf C) (sym (front ∙ ap (add (take (word_bits C) before)) (f.leads c q) ∙ add_back (take (word_bits C) before) c (long ∙ sym q.code.long))) q.code);
   }

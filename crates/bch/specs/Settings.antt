@@ -53,3 +53,7 @@ checks_of_first C w = cond (nat_le (data_bits C) (length w)) (Some (checks_numbe
 -- the check bits that the first data bits ask for, added to those that follow them, as a number
 abbrev pub rest : Bch → List Bool → ℕ
 rest C w = bit_xor (checks_number C (take (data_bits C) w)) (number (take (check_bits C) (drop (data_bits C) w)))
+
+-- the same of the first bits, or none where there are too few for a codeword
+abbrev pub rest_of_first : Bch → List Bool → Option ℕ
+rest_of_first C w = cond (nat_le (word_bits C) (length w)) (Some (rest C w)) None

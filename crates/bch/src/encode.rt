@@ -1,28 +1,14 @@
 // The check bits: the remainder of the data's polynomial times x^r1 by the generator.
-ghost use Rattle.std.specs.Prelude.{◌≡◌, ◌+◌, ◌^◌, ◌<◌, ◌≤◌, ◌++◌, length, take, drop, IfSome};
-ghost use Rattle.gf2.specs.Words.{bits, bits_of, number as number_of};
+ghost use Rattle.std.specs.Prelude.{◌≡◌, ◌^◌, ◌<◌, ◌≤◌, ◌++◌, length, take, IfSome, is_ok};
+ghost use Rattle.gf2.specs.Words.{bits, bits_of};
 ghost use Rattle.gf2.specs.Product.{times_x};
 ghost use Rattle.inner.specs.Checks.{room_for_checks, with_checks};
 ghost use Rattle.bch.specs.Checks.{remainder as remainder_from, RemaindersOfBytes};
 ghost use Rattle.bch.specs.InnerLaws.{WordOf};
-ghost use Rattle.bch.specs.Settings.{data_bits, check_bits, word_bits, generator_top, generator_tail, checks_number, checks_of_first, checks, rest as rest_of};
+ghost use Rattle.bch.specs.Settings.{data_bits, check_bits, generator_top, generator_tail, checks_number, checks_of_first, checks, rest_of_first};
 
 use crate::code::Bch;
-use gf2::bits::{holds, is_set, put_number};
-
-// The number that `count` bits make behind the first `skip`, the first bit the highest.
-fn number(bytes: &[u8], skip: usize, count: usize) -> u128
-    requires enough { skip + count ≤ length (bits bytes.now) }
-    requires near { skip + count ≤ 65536 }
-    requires few { count ≤ 127 }
-    ensures number_of_those_bits { result ≡ number_of (take count (drop skip (bits bytes.now))) }
-{
-    let mut value = 0;
-    for i in 0..count {
-        value = value * 2 + u128::from(is_set(bytes, skip + i));
-    }
-    value
-}
+use gf2::bits::{NoRoom, holds, is_set, put_number, wide_number};
 
 impl Bch {
     // The register times x, reduced by the generator.
@@ -56,8 +42,8 @@ impl Bch {
     {
         let table = self.remainders();
         let mut register = 0;
-        for i in 0..count / 8 {
-            register = self.next_byte(table, register, bytes[i]);
+        for byte in &bytes[..count / 8] {
+            register = self.next_byte(table, register, *byte);
         }
         for skip in count / 8 * 8..count {
             register = self.times_x(register);
@@ -66,14 +52,6 @@ impl Bch {
             }
         }
         register
-    }
-
-    // The check bits that the data bits ask for, added to those that stand behind them: 0 for a codeword alone.
-    pub(crate) fn rest(self, word: &[u8]) -> u128
-        requires enough { word_bits self ≤ length (bits word.now) }
-        ensures checks_asked_for_and_found { result ≡ rest_of self (bits word.now) }
-    {
-        self.remainder(word, self.data_bits()) ^ number(word, self.data_bits(), self.degree())
     }
 
     // The check bits of the data bits that come first, as one number whose highest bit is the first; none where there are fewer data bits.
@@ -88,17 +66,21 @@ impl Bch {
         Some(self.remainder(bytes, count))
     }
 
-    // Writes the check bits of the data bits behind them, so that a codeword comes first. Where there are too few bits, nothing changes and
-    // the answer is false.
-    pub fn complete(self, word: &mut [u8]) -> bool
-        ensures accepts_bits_enough_for_a_codeword { result ≡ room_for_checks (data_bits self) (check_bits self) (bits word.old) }
+    // The check bits that the data bits ask for, added to those that stand behind them: 0 for a codeword alone. None where there are too few bits.
+    pub(crate) fn rest(self, word: &[u8]) -> Option<u128>
+        ensures checks_asked_for_and_found { result ≡ rest_of_first self (bits word.now) }
+    {
+        let asked = self.check_bits(word)?;
+        let found = wide_number(word, self.data_bits(), self.degree() as u32)?;
+        Some(asked ^ found)
+    }
+
+    // Writes the check bits of the data bits behind them, so that a codeword comes first. Where there are too few bits, nothing changes.
+    pub fn complete(self, word: &mut [u8]) -> Result<(), NoRoom>
+        ensures accepts_bits_enough_for_a_codeword { is_ok result ≡ room_for_checks (data_bits self) (check_bits self) (bits word.old) }
         ensures check_bits_follow_the_data { bits word.new ≡ with_checks (data_bits self) (check_bits self) (checks self) (bits word.old) }
     {
-        if !holds(word, self.word_bits()) {
-            return false;
-        }
-        let checks = self.remainder(word, self.data_bits());
-        let _ = put_number(word, self.data_bits(), self.degree() as u32, checks);
-        true
+        let checks = self.check_bits(word).ok_or(NoRoom)?;
+        put_number(word, self.data_bits(), self.degree() as u32, checks)
     }
 }

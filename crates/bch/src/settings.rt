@@ -1,10 +1,12 @@
-// The codes as inner codes, one for each setting.
+// The codes as inner codes, one for each setting. The two impls are constants and two calls each, since a generic impl would have to be told these too.
 ghost use Rattle.gf2.specs.declared.field.Field.TheVariants.{Three, Ten};
 ghost use Rattle.bch.specs.Codes.{WorkedCodeword, worked_checks, LongCodeword, long_checks};
 ghost use Rattle.bch.specs.Theory.Laws.{worked_inner_code, worked_setting, long_inner_code, long_setting};
 
 use crate::code::Bch;
-use inner::code::{Exactly, InnerCode};
+use gf2::bits::NoRoom;
+use gf2::field::Field;
+use inner::code::InnerCode;
 
 // 18 data bits and 10 check bits; 2 wrong bits are corrected.
 pub struct Worked;
@@ -12,14 +14,26 @@ pub struct Worked;
 // 8,200 data bits and 70 check bits; 5 wrong bits are corrected.
 pub struct Long;
 
-impl InnerCode<18, 10, 2, 3> for Worked {
-    const DATA: Exactly<18> = Exactly { value: 18 };
+impl InnerCode for Worked {
+    const DATA: usize = 18;
 
-    const CHECKS: Exactly<10> = Exactly { value: 10 };
+    const CHECKS: usize = 10;
 
-    const ERRORS: Exactly<2> = Exactly { value: 2 };
+    const ERRORS: usize = 2;
 
-    const TAIL: Exactly<3> = Exactly { value: 3 };
+    const TAIL: usize = 3;
+
+    const FIELD: Field = Field::Three;
+
+    ghost DATA = { 18 };
+
+    ghost CHECKS = { 10 };
+
+    ghost ERRORS = { 2 };
+
+    ghost TAIL = { 3 };
+
+    ghost FIELD = { Three };
 
     ghost codeword = { WorkedCodeword };
 
@@ -27,11 +41,9 @@ impl InnerCode<18, 10, 2, 3> for Worked {
 
     ghost laws = { worked_inner_code };
 
-    ghost field = { Three };
-
     ghost setting = { worked_setting };
 
-    fn complete(word: &mut [u8]) -> bool {
+    fn complete(word: &mut [u8]) -> Result<(), NoRoom> {
         Bch::Worked.complete(word)
     }
 
@@ -40,14 +52,26 @@ impl InnerCode<18, 10, 2, 3> for Worked {
     }
 }
 
-impl InnerCode<8200, 70, 5, 10> for Long {
-    const DATA: Exactly<8200> = Exactly { value: 8200 };
+impl InnerCode for Long {
+    const DATA: usize = 8200;
 
-    const CHECKS: Exactly<70> = Exactly { value: 70 };
+    const CHECKS: usize = 70;
 
-    const ERRORS: Exactly<5> = Exactly { value: 5 };
+    const ERRORS: usize = 5;
 
-    const TAIL: Exactly<10> = Exactly { value: 10 };
+    const TAIL: usize = 10;
+
+    const FIELD: Field = Field::Ten;
+
+    ghost DATA = { 8200 };
+
+    ghost CHECKS = { 70 };
+
+    ghost ERRORS = { 5 };
+
+    ghost TAIL = { 10 };
+
+    ghost FIELD = { Ten };
 
     ghost codeword = { LongCodeword };
 
@@ -55,11 +79,9 @@ impl InnerCode<8200, 70, 5, 10> for Long {
 
     ghost laws = { long_inner_code };
 
-    ghost field = { Ten };
-
     ghost setting = { long_setting };
 
-    fn complete(word: &mut [u8]) -> bool {
+    fn complete(word: &mut [u8]) -> Result<(), NoRoom> {
         Bch::Long.complete(word)
     }
 

@@ -27,7 +27,7 @@ fn two_wrong_bits_are_corrected_and_three_far_ones_left(rt: HostRuntime) -> Resu
 #[test]
 fn two_wrong_bits_are_corrected_and_three_far_ones_left_through_the_trait(rt: HostRuntime) {
     let mut word = [0b1101_1001, 0b1110_1001, 0b1100_0000, 0];
-    assert!(rt; Worked::complete(&mut word));
+    assert!(rt; Worked::complete(&mut word).is_ok());
     let right = word;
     word[0] = word[0] ^ 0x80;
     word[3] = word[3] ^ 0x10;

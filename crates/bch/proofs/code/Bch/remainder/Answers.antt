@@ -1,5 +1,6 @@
 use Rattle.std.proofs.Common.{◌≡◌, ℕ, ◌*◌, ◌/◌, ◌^◌, ◌<◌, Bool, false, cond, [], get_or, take, sym, refl, ap, ◌∙◌, subst, ap₂, arith, pow_pos}
 use lib.Bits.{bit_xor, xor_zero_r}
+use Rattle.std.proofs.lemmas.List.{get_or-take, length-take}
 use Rattle.gf2.specs.Words.{bits, bits_of}
 use Rattle.gf2.specs.Product.{times_x}
 use Rattle.gf2.proofs.Places.{bits_length}
@@ -17,34 +18,35 @@ start : (C : Bch) → 0 ≡ checks_number C []
 unfolding running
 start C = refl
 
-pub bounds-bytes-i : goal.bounds-bytes-i
-bounds-bytes-i c = omega (arith, bits_length c.args.bytes.now, c.loop-i-test.true, c.requires.enough)
+pub slice_bounds-byte-items-end : goal.slice_bounds-byte-items-end
+slice_bounds-byte-items-end c = omega (arith, bits_length c.args.bytes.now, c.requires.enough, length-take (c.args.count / 8) c.args.bytes.now)
 
-pub loop-i-init : goal.loop-i-init
-loop-i-init c = start c.args.self
+pub loop-byte-init : goal.loop-byte-init
+loop-byte-init c = start c.args.self
 
 pub next_byte-register-requires : goal.next_byte-register-requires
 next_byte-register-requires c =
     let C = c.args.self in
-    let w = take (c.loop-i.i * 8) (bits c.args.bytes.now) in
+    let w = take (c.loop-byte.byte-index * 8) (bits c.args.bytes.now) in
     record {
       remainders = c.remainders-table.ensures.each_at_its_byte;
-      reduced = subst (λ (x : ℕ). x < 2 ^ check_bits C) (sym c.loop-i.invariant) (remainder_lt (generator_top C) (generator_tail C) (tested C).tail w 0 (pow_pos (check_bits C)));
+      reduced = subst (λ (x : ℕ). x < 2 ^ check_bits C) (sym c.loop-byte.invariant) (remainder_lt (generator_top C) (generator_tail C) (tested C).tail w 0 (pow_pos (check_bits C)));
     }
 
-pub loop-i-preserved : goal.loop-i-preserved
-loop-i-preserved c =
+pub loop-byte-preserved : goal.loop-byte-preserved
+loop-byte-preserved c =
     let C = c.args.self in
     let n = generator_top C in
     let g = generator_tail C in
     let bs = c.args.bytes.now in
-    let i = c.loop-i.i in
+    let i = c.loop-byte.byte-index in
+    let inside : i < c.args.count / 8 = omega (arith, bits_length bs, c.requires.enough, length-take (c.args.count / 8) bs) in
     c.next_byte-register.ensures.eight_bits_on
-    ∙ ap (λ (r : ℕ). remainder n g r (bits_of 8 (get_or bs i 0))) c.loop-i.invariant
-    ∙ sym (ap (checks_number C) (byte_more bs i (omega (arith, bits_length bs, c.loop-i-test.true, c.requires.enough))) ∙ runs.on (times_x n g) g 0 (take (i * 8) (bits bs)) (bits_of 8 (get_or bs i 0)))
+    ∙ ap₂ (λ (r b : ℕ). remainder n g r (bits_of 8 b)) c.loop-byte.invariant (get_or-take (c.args.count / 8) bs i 0 inside)
+    ∙ sym (ap (checks_number C) (byte_more bs i (omega (arith, bits_length bs, inside, c.requires.enough))) ∙ runs.on (times_x n g) g 0 (take (i * 8) (bits bs)) (bits_of 8 (get_or bs i 0)))
 
 pub loop-skip-init : goal.loop-skip-init
-loop-skip-init c = c.loop-i.invariant ∙ ap (λ (k : ℕ). checks_number c.args.self (take k (bits c.args.bytes.now))) (let e : c.loop-i.i * 8 ≡ c.args.count / 8 * 8 = omega arith in e)
+loop-skip-init c = c.loop-byte.invariant ∙ ap (λ (k : ℕ). checks_number c.args.self (take k (bits c.args.bytes.now))) (let e : c.loop-byte.byte-index * 8 ≡ c.args.count / 8 * 8 = omega (arith, bits_length c.args.bytes.now, c.requires.enough, length-take (c.args.count / 8) c.args.bytes.now) in e)
 
 pub loop-skip-preserved : goal.loop-skip-preserved
 loop-skip-preserved c =
