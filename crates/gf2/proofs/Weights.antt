@@ -1,13 +1,14 @@
 -- Set bits and differing bits, byte by byte.
-use Rattle.std.proofs.Common.{◌≡◌, ℕ, zero, suc, ◌+◌, ◌/◌, ◌%◌, ◌^◌, ◌<◌, Bool, eqb, List, [], ◌∷◌, length, get_or, take, sym, refl, ap, ◌∙◌, ap₂, mod-lt, mod-eq_of_lt, zero-lt-suc, arith, pow_pos}
+use Rattle.std.proofs.Common.{◌≡◌, ℕ, zero, suc, ◌+◌, ◌/◌, ◌%◌, ◌*◌, ◌^◌, ◌<◌, ◌≤◌, eqb, List, [], ◌∷◌, length, get_or, sym, refl, ap, ◌∙◌, ap₂, mod-lt, mod-eq_of_lt, zero-lt-suc, arith, pow_pos}
 use lib.Bits.{bit_xor, xor_lt}
-use lib.Count.{ones, ones_cat}
+use lib.Count.{ones, ones_cat, ones-le}
 use Rattle.std.proofs.lemmas.Nat.{mod-pow-add}
-use Rattle.std.proofs.lemmas.List.{take_more, length-take-le, append-nil}
+use Rattle.std.proofs.lemmas.List.Sums.{sum_by-cons}
+use Rattle.std.specs.Prelude.{count_ones}
+use Rattle.std.specs.List.{sum_by, zip}
 use Rattle.gf2.specs.Words.{add, weight, distance, bits_of, bits}
-use Rattle.gf2.proofs.Sums.{add_append, weight_append}
+use Rattle.gf2.proofs.Sums.{add_append, weight_append, bits_of_length}
 use Rattle.gf2.proofs.Digits.{bits_of_xor}
-use Rattle.gf2.proofs.Places.{bits_length, bits_append}
 
 pub weight_bits_of : (k n : ℕ) → weight (bits_of k n) ≡ ones (n % 2 ^ k)
 unfolding bits_of
@@ -26,34 +27,37 @@ weight_bits_of (suc k) n =
     bit (suc zero) h = unfold ones in omega arith
     bit (suc (suc d)) h = absurd (omega arith)
 
-byte_weight : (b : ℕ) → b < 2 ^ 8 → weight (bits (b ∷ [])) ≡ ones b
+byte_weight : (b : ℕ) → b < 2 ^ 8 → weight (bits_of 8 b) ≡ ones b
+byte_weight b h = weight_bits_of 8 b ∙ ap ones (mod-eq_of_lt h)
+
+-- the set bits of bytes, byte by byte
+pub weight_bits : (bs : List ℕ) → ((i : ℕ) → get_or bs i 0 < 2 ^ 8) → sum_by (λ b. count_ones b) bs ≡ weight (bits bs)
 unfolding bits
-byte_weight b h = ap weight (append-nil (bits_of 8 b)) ∙ weight_bits_of 8 b ∙ ap ones (mod-eq_of_lt h)
+weight_bits [] low = refl
+weight_bits (b ∷ bs) low =
+    sum_by-cons (λ b. count_ones b) b bs ∙ ap₂ ◌+◌ (sym (byte_weight b (low 0))) (weight_bits bs (λ i. low (suc i))) ∙ sym (weight_append (bits_of 8 b) (bits bs))
 
-pub weight_more : (bs : List ℕ) (i : ℕ) → i < length bs → get_or bs i 0 < 2 ^ 8
-    → weight (bits (take (i + 1) bs)) ≡ weight (bits (take i bs)) + ones (get_or bs i 0)
-weight_more bs i h low =
-    ap (λ (w : List ℕ). weight (bits w)) (take_more bs i 0 h) ∙ ap weight (bits_append (take i bs) (get_or bs i 0 ∷ []))
-    ∙ weight_append (bits (take i bs)) (bits (get_or bs i 0 ∷ []))
-    ∙ ap (λ (x : ℕ). weight (bits (take i bs)) + x) (byte_weight (get_or bs i 0) low)
+-- the bits in which two bytes differ
+abbrev pub differing : ℕ × ℕ → ℕ
+differing p = count_ones (bit_xor p.0 p.1)
 
-byte_distance : (a b : ℕ) → a < 2 ^ 8 → b < 2 ^ 8 → distance (bits (a ∷ [])) (bits (b ∷ [])) ≡ ones (bit_xor a b)
+-- the bits in which bytes differ, byte by byte
+pub distance_bits : (cs bs : List ℕ) → length cs ≡ length bs → ((i : ℕ) → get_or cs i 0 < 2 ^ 8) → ((i : ℕ) → get_or bs i 0 < 2 ^ 8)
+    → sum_by differing (zip cs bs) ≡ distance (bits cs) (bits bs)
 unfolding bits
-byte_distance a b ha hb =
-    ap₂ (λ (x y : List Bool). weight (add x y)) (append-nil (bits_of 8 a)) (append-nil (bits_of 8 b))
-    ∙ ap weight (sym (bits_of_xor 8 a b)) ∙ weight_bits_of 8 (bit_xor a b) ∙ ap ones (mod-eq_of_lt (xor_lt 8 a b ha hb))
+distance_bits [] [] h low low' = refl
+distance_bits [] (b ∷ bs) h low low' = absurd (omega arith)
+distance_bits (a ∷ cs) [] h low low' = absurd (omega arith)
+distance_bits (a ∷ cs) (b ∷ bs) h low low' =
+    sum_by-cons differing (a, b) (zip cs bs)
+    ∙ ap₂ ◌+◌ (sym (ap weight (sym (bits_of_xor 8 a b)) ∙ byte_weight (bit_xor a b) (xor_lt 8 a b (low 0) (low' 0)))) (distance_bits cs bs (omega arith) (λ i. low (suc i)) (λ i. low' (suc i)))
+    ∙ sym
+    (ap weight (add_append (bits_of 8 a) (bits cs) (bits_of 8 b) (bits bs) (bits_of_length 8 a ∙ sym (bits_of_length 8 b)))
+    ∙ weight_append (add (bits_of 8 a) (bits_of 8 b)) (add (bits cs) (bits bs)))
 
-pub distance_more : (cs bs : List ℕ) (i : ℕ) → i < length cs → length cs ≡ length bs → get_or cs i 0 < 2 ^ 8 → get_or bs i 0 < 2 ^ 8
-    → distance (bits (take (i + 1) cs)) (bits (take (i + 1) bs)) ≡ distance (bits (take i cs)) (bits (take i bs)) + ones (bit_xor (get_or cs i 0) (get_or bs i 0))
-distance_more cs bs i h same la lb =
-    let a = get_or cs i 0 in
-    let b = get_or bs i 0 in
-    let h' : i < length bs = omega arith in
-    ap₂ (λ (x y : List ℕ). distance (bits x) (bits y)) (take_more cs i 0 h) (take_more bs i 0 h')
-    ∙ ap₂ distance (bits_append (take i cs) (a ∷ [])) (bits_append (take i bs) (b ∷ []))
-    ∙ ap weight (add_append (bits (take i cs)) (bits (a ∷ [])) (bits (take i bs)) (bits (b ∷ [])) level)
-    ∙ weight_append (add (bits (take i cs)) (bits (take i bs))) (add (bits (a ∷ [])) (bits (b ∷ [])))
-    ∙ ap (λ (x : ℕ). distance (bits (take i cs)) (bits (take i bs)) + x) (byte_distance a b la lb)
-  where
-    level : length (bits (take i cs)) ≡ length (bits (take i bs))
-    level = omega (arith, bits_length (take i cs), bits_length (take i bs), length-take-le i cs (omega arith), length-take-le i bs (omega arith))
+-- at most eight a byte
+pub differing_at_most : (cs bs : List ℕ) → ((i : ℕ) → get_or cs i 0 < 2 ^ 8) → ((i : ℕ) → get_or bs i 0 < 2 ^ 8) → sum_by differing (zip cs bs) ≤ 8 * length cs
+differing_at_most [] bs low low' = omega arith
+differing_at_most (a ∷ cs) [] low low' = omega arith
+differing_at_most (a ∷ cs) (b ∷ bs) low low' =
+    omega (arith, sum_by-cons differing (a, b) (zip cs bs), ones-le 8 (bit_xor a b) (xor_lt 8 a b (low 0) (low' 0)), differing_at_most cs bs (λ i. low (suc i)) (λ i. low' (suc i)))

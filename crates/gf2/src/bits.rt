@@ -2,9 +2,20 @@
 ghost use Rattle.std.specs.Prelude.{◌≡◌, ◌+◌, ◌-◌, ◌*◌, ◌/◌, ◌%◌, ◌^◌, ◌<◌, ◌≤◌, MatchBool, false, is_ok, length, nat_le, slice_index, slice_index_or, slice_set};
 ghost use Rattle.gf2.specs.Words.{bits, bit_number, flipped, weight as weight_of, byte_distance, number_behind, number_within, bits_of, with_run, room_for, with_number};
 
+use std::error::Error;
+use std::fmt;
+
 // The bytes end before the bits that were asked for, or these are too many.
 #[derive(Clone, Copy, PartialEq, Eq, Debug)]
 pub struct NoRoom;
+
+impl fmt::Display for NoRoom {
+    fn fmt<W: fmt::Write>(&self, f: &mut fmt::Formatter<W>) -> fmt::Result {
+        f.write_str("the bytes have no room for those bits")
+    }
+}
+
+impl Error for NoRoom {}
 
 // The bit at a place of a byte, counted from 0, the most significant first; the place counts modulo 8.
 fn digit(byte: u8, place: usize) -> u8
@@ -51,10 +62,8 @@ pub fn bit(bytes: &[u8], nth: usize) -> Option<bool>
     ensures that_bit_or_none { result ≡ bit_number (bits bytes.now) nth }
 {
     let place = nth.checked_sub(1)?;
-    if place / 8 >= bytes.len() {
-        return None;
-    }
-    Some(is_set(bytes, place))
+    let byte = bytes.get(place / 8)?;
+    Some(digit(*byte, place) == 1)
 }
 
 // Flips the bit with that number and answers what it is now; where there is no such bit nothing changes.
@@ -71,11 +80,7 @@ pub fn flip(bytes: &mut [u8], nth: usize) -> Option<bool>
 pub fn weight(bytes: &[u8]) -> u128
     ensures number_of_set_bits { result ≡ weight_of (bits bytes.now) }
 {
-    let mut count = 0;
-    for byte in bytes {
-        count += u128::from(byte.count_ones());
-    }
-    count
+    bytes.iter().map(|byte| u128::from(byte.count_ones())).sum()
 }
 
 // The number of bits in which two slices differ; none where their lengths do.
@@ -85,11 +90,12 @@ pub fn distance(a: &[u8], b: &[u8]) -> Option<u128>
     if a.len() != b.len() {
         return None;
     }
-    let mut count = 0;
-    for (i, x) in a.iter().enumerate() {
-        count += u128::from((*x ^ b[i]).count_ones());
-    }
-    Some(count)
+    Some(
+        a.iter()
+            .zip(b)
+            .map(|(x, y)| u128::from((*x ^ *y).count_ones()))
+            .sum(),
+    )
 }
 
 // The byte at that index; 0 past the end.
@@ -97,11 +103,7 @@ fn byte_or_0(bytes: &[u8], at: usize) -> u32
     ensures the_byte_or_0 { result ≡ slice_index bytes.now at }
     ensures a_byte { result < 256 }
 {
-    if at < bytes.len() {
-        u32::from(bytes[at])
-    } else {
-        0
-    }
+    bytes.get(at).map_or(0, |byte| u32::from(*byte))
 }
 
 // The number that `count` bits make, 1 to 16 of them, behind the first `skip`, the first bit the highest; none where the bytes end before.
@@ -134,6 +136,7 @@ pub fn wide_number(bytes: &[u8], skip: usize, count: u32) -> Option<u128>
     }
     let bytes = &bytes[skip / 8..];
     let mut value = 0;
+    // The places are those of bits, which no slice lists.
     for place in 0..count as usize {
         value = value * 2 + u128::from(is_set(bytes, skip % 8 + place));
     }
@@ -146,6 +149,7 @@ pub(crate) fn write_number(bytes: &mut [u8], skip: usize, count: u32, number: u1
     requires small { (skip < 8) × (count ≤ 128) }
     ensures written { bits bytes.new ≡ with_run skip (bits_of count number) (bits bytes.old) }
 {
+    // An index is both a place and a shift amount, so a zip of two ranges reads no plainer.
     for done in 0..count {
         put(
             bytes,

@@ -1,7 +1,11 @@
 // The five binary fields. An element is a number below 2^m, its bits the coefficients from x^(m-1) down to 1.
 // Of a number that is no element only the low m bits count.
 ghost use Rattle.std.specs.Prelude.{◌≡◌, ◌^◌, ◌<◌, nat_lt};
-ghost use Rattle.gf2.specs.Fields.{width as width_of, modulus_tail, element as element_of, sum as sum_in, alpha, product as product_in, power as power_in, inverse as inverse_in, IsInverse, IsFieldOfWidth};
+ghost use Rattle.gf2.specs.Fields.{width as width_of, top, modulus_tail, element as element_of, sum as sum_in, alpha, product as product_in, power as power_in, inverse as inverse_in, IsInverse, IsFieldOfWidth};
+
+use crate::modulus::Modulus;
+use std::error::Error;
+use std::fmt;
 
 // A field by the bits m of its elements.
 #[derive(Clone, Copy, PartialEq, Eq, Debug)]
@@ -16,6 +20,14 @@ pub enum Field {
 // The bits of an element that no field of the five has.
 #[derive(Clone, Copy, PartialEq, Eq, Debug)]
 pub struct NoSuchField(pub u32);
+
+impl fmt::Display for NoSuchField {
+    fn fmt<W: fmt::Write>(&self, f: &mut fmt::Formatter<W>) -> fmt::Result {
+        write!(f, "no field has elements of {} bits", self.0)
+    }
+}
+
+impl Error for NoSuchField {}
 
 // The field whose elements have that many bits.
 impl TryFrom<u32> for Field {
@@ -49,16 +61,21 @@ impl Field {
         }
     }
 
-    // The modulus without x^m.
-    fn modulus_tail(self) -> u16
-        ensures lower_terms_of_the_modulus { result ≡ modulus_tail self }
+    // The polynomial that products are reduced by.
+    pub fn modulus(self) -> Modulus
+        ensures highest_exponent_of_an_element { result.top ≡ top self }
+        ensures lower_terms_of_the_modulus { result.tail ≡ modulus_tail self }
     {
-        match self {
+        let tail = match self {
             Field::Three => 0b011,
             Field::Five => 0b0_0101,
             Field::Eight => 0b0001_1101,
             Field::Ten => 0b00_0000_1001,
             Field::Fourteen => 0b00_0100_0100_0011,
+        };
+        Modulus {
+            top: self.width() - 1,
+            tail,
         }
     }
 
@@ -86,13 +103,7 @@ impl Field {
     pub fn times_alpha(self, a: u16) -> u16
         ensures product_with_alpha { result ≡ product_in self alpha a }
     {
-        let top = self.width() - 1;
-        let low = (a & ((1 << top) - 1)) << 1;
-        if (a >> top) & 1 == 1 {
-            low ^ self.modulus_tail()
-        } else {
-            low
-        }
+        self.modulus().times_x(u128::from(a)) as u16
     }
 
     pub fn product(self, a: u16, b: u16) -> u16
@@ -100,6 +111,7 @@ impl Field {
     {
         let element = self.element(a);
         let mut sum = 0;
+        // The index is a shift amount, so a fold over the range reads no plainer.
         for i in (0..self.width()).rev() {
             sum = self.times_alpha(sum);
             if (b >> i) & 1 == 1 {
@@ -116,6 +128,7 @@ impl Field {
         let mut result = 1;
         let mut square = a;
         let mut left = exponent;
+        // The exponent is halved, which walks over no range.
         while left > 0 {
             if left % 2 == 1 {
                 result = self.product(result, square);

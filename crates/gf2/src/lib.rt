@@ -4,6 +4,7 @@
 pub mod bits;
 pub mod field;
 pub mod laws;
+pub mod modulus;
 pub mod powers;
 pub mod runs;
 #[cfg(test)]

@@ -32,6 +32,7 @@ fn copy_to_front(source: &[u8], skip: usize, count: usize, out: &mut [u8])
     ensures copied { bits out.new ≡ with_run 0 (take count (drop skip (bits source.now))) (bits out.old) }
 {
     let whole = count / 8;
+    // The index is a place in both slices, and byte_behind reads two bytes of the source.
     for i in 0..whole {
         out[i] = byte_behind(&source[i..], skip);
     }

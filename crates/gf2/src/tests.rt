@@ -50,6 +50,7 @@ fn powers_and_inverses_have_known_values(rt: HostRuntime) {
         ] == [29, 205, 3, 1]
     );
     assert_eq!(rt; field.product(3, 205), field.power(2, 37));
+    assert_eq!(rt; field.modulus().times_x(0x80), 29);
     assert_eq!(rt; field.inverse(2), Some(142));
     assert_eq!(rt; powers::power(usize::MAX), Field::Ten.power(2, u64::MAX));
 }

@@ -6,6 +6,8 @@ ghost use Rattle.pagecode.specs.Groups.{f_of_first, product_behind};
 
 use gf2::bits::{NoRoom, number};
 use gf2::field::{Field, NoSuchField};
+use std::error::Error;
+use std::fmt;
 
 // Why a run of bits has no f, or a message no v_k.
 #[derive(Clone, Copy, PartialEq, Eq, Debug)]
@@ -15,6 +17,17 @@ pub enum Misfit {
     // The run is no multiple of two groups, or bytes hold fewer bits than the call asks for.
     Length,
 }
+
+impl fmt::Display for Misfit {
+    fn fmt<W: fmt::Write>(&self, f: &mut fmt::Formatter<W>) -> fmt::Result {
+        f.write_str(match self {
+            Misfit::NoField => "no field has elements of that many bits",
+            Misfit::Length => "the number of bits does not fit",
+        })
+    }
+}
+
+impl Error for Misfit {}
 
 impl From<NoSuchField> for Misfit {
     ghost use Rattle.pagecode.specs.declared.nonlinear.Misfit.TheVariants.{NoField};
