@@ -1,5 +1,4 @@
 // The remainders of all bytes, by which a word is divided a byte at a time.
-ghost use Rattle.bch.specs.declared.code.Bch.TheVariants.{Worked, Long};
 ghost use Rattle.bch.specs.Checks.{RemaindersOfBytes};
 ghost use Rattle.bch.specs.Settings.{generator_top, generator_tail};
 
@@ -286,25 +285,14 @@ const LONG: [u128; 256] = [
     0x1C_84D6_11D7_3AB8_F796,
 ];
 
-fn worked_table() -> &'static [u128; 256]
-    ensures each_at_its_byte { RemaindersOfBytes (generator_top Worked) (generator_tail Worked) result.now }
-{
-    &WORKED
-}
-
-fn long_table() -> &'static [u128; 256]
-    ensures each_at_its_byte { RemaindersOfBytes (generator_top Long) (generator_tail Long) result.now }
-{
-    &LONG
-}
-
 impl Bch {
+    // The table of the code's remainders.
     pub(crate) fn remainders(self) -> &'static [u128; 256]
         ensures each_at_its_byte { RemaindersOfBytes (generator_top self) (generator_tail self) result.now }
     {
         match self {
-            Bch::Worked => worked_table(),
-            Bch::Long => long_table(),
+            Bch::Worked => &WORKED,
+            Bch::Long => &LONG,
         }
     }
 }
