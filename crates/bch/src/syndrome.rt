@@ -1,7 +1,6 @@
 // The values of a polynomial at the powers of alpha.
 ghost use Rattle.std.specs.Prelude.{◌≡◌, ℕ, ◌<◌};
 ghost use Rattle.gf2.specs.Fields.{alpha, product, power};
-ghost use Rattle.gf2.specs.Product.{times_x};
 ghost use Rattle.gf2.specs.Words.{bits_of};
 ghost use Rattle.bch.specs.Code.{syndrome as syndrome_of};
 ghost use Rattle.bch.specs.Elimination.{sequence};
@@ -12,25 +11,13 @@ use crate::eliminate::Sequence;
 use gf2::field::Field;
 use std::array;
 
-// x times a modulo x^(top+1) + tail. Both outcomes are at hand before the test, so that it needs no jump.
-fn times_x(a: u16, top: u32, tail: u16) -> u16
-    requires inside { top < 15 }
-    ensures moves_up_and_reduces { result ≡ times_x top tail a }
-{
-    let low = (a & ((1 << top) - 1)) << 1;
-    if (a >> top) & 1 == 1 { low ^ tail } else { low }
-}
-
 // alpha^k times a.
 pub(crate) fn times_power(field: Field, a: u16, k: usize) -> u16
     ensures product_with_that_power { result ≡ product field (power field alpha k) a }
 {
-    let top = field.width() - 1;
-    // The modulus without its highest term is what that term is equal to.
-    let tail = field.times_alpha(1 << top);
     let mut moved = field.sum(a, 0);
     for _i in 0..k {
-        moved = times_x(moved, top, tail);
+        moved = field.times_alpha(moved);
     }
     moved
 }

@@ -1,6 +1,6 @@
 use Rattle.std.proofs.Common.{◌≡◌}
-use Rattle.gf2.proofs.Ring.{shifted}
+use Rattle.gf2.specs.Fields.{alpha, power, product}
 use Rattle.bch.proofs.syndrome.times_power.Given as goal
 
 abbrev pub invariant-loop-i : goal.invariant-loop-i
-invariant-loop-i l = l.moved ≡ shifted l.top l.tail l._i l.initial.moved
+invariant-loop-i l = l.moved ≡ product l.field (power l.field alpha l._i) l.a
