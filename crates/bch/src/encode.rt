@@ -1,7 +1,6 @@
 // The check bits: the remainder of the data's polynomial times x^r1 by the generator.
 ghost use Rattle.std.specs.Prelude.{◌≡◌, ◌^◌, ◌<◌, ◌≤◌, ◌++◌, length, take, IfSome, is_ok};
 ghost use Rattle.gf2.specs.Words.{bits, bits_of};
-ghost use Rattle.gf2.specs.Product.{times_x};
 ghost use Rattle.inner.specs.Checks.{room_for_checks, with_checks};
 ghost use Rattle.bch.specs.Checks.{remainder as remainder_from, RemaindersOfBytes};
 ghost use Rattle.bch.specs.InnerLaws.{WordOf};
@@ -11,19 +10,6 @@ use crate::code::Bch;
 use gf2::bits::{NoRoom, holds, is_set, put_number, wide_number};
 
 impl Bch {
-    // The register times x, reduced by the generator.
-    fn times_x(self, register: u128) -> u128
-        ensures moves_up_and_reduces { result ≡ times_x (generator_top self) (generator_tail self) register }
-    {
-        let top = self.degree() - 1;
-        let low = (register & ((1 << top) - 1)) << 1;
-        if (register >> top) & 1 == 1 {
-            low ^ self.generator_tail()
-        } else {
-            low
-        }
-    }
-
     // Brings a byte into the register. The byte and the bits that leave the register at its top count alike, so one entry of the table serves both.
     fn next_byte(self, table: &[u128; 256], register: u128, byte: u8) -> u128
         requires remainders { RemaindersOfBytes (generator_top self) (generator_tail self) table.now }
@@ -40,15 +26,17 @@ impl Bch {
         requires enough { count ≤ length (bits bytes.now) }
         ensures of_those_bits { result ≡ checks_number self (take count (bits bytes.now)) }
     {
+        let generator = self.generator();
         let table = self.remainders();
         let mut register = 0;
         for byte in &bytes[..count / 8] {
             register = self.next_byte(table, register, *byte);
         }
+        // The bits that are left have places, which no slice lists.
         for skip in count / 8 * 8..count {
-            register = self.times_x(register);
+            register = generator.times_x(register);
             if is_set(bytes, skip) {
-                register = register ^ self.generator_tail();
+                register = register ^ generator.tail;
             }
         }
         register

@@ -1,4 +1,4 @@
-use Rattle.std.proofs.Common.{◌≡◌, ℕ, suc, ◌+◌, sym, ap, ◌∙◌, add-one, arith}
+use Rattle.std.proofs.Common.{◌≡◌, ℕ, suc, ◌+◌, sym, ap, ◌∙◌, arith}
 use Rattle.gf2.specs.declared.field.Field.{Field}
 use Rattle.gf2.specs.Fields.{alpha, sum, product, power}
 use Rattle.gf2.specs.Polynomials.{power as power_under}

@@ -55,14 +55,14 @@ loop-skip-preserved c =
     let g = generator_tail C in
     let w = bits c.args.bytes.now in
     let i = c.loop-skip.skip in
+    let eg = c.generator-generator.ensures.lower_terms in
+    let moved : c.times_x-register.result ≡ times_x n g c.loop-skip.register =
+    c.times_x-register.ensures.moves_up_and_reduces ∙ ap₂ (λ (a b : ℕ). times_x a b c.loop-skip.register) c.generator-generator.ensures.one_less_than_the_degree eg in
     let v : c.if-is_set.register ≡ bit_xor (times_x n g c.loop-skip.register) (cond (get_or w i false) g 0) =
     elim c.if-is_set.branch [
-      | then-is_set y ↦
-          y.register-is ∙ ap₂ bit_xor c.times_x-register.ensures.moves_up_and_reduces
-          (y.generator_tail-register.ensures.lower_terms_of_the_generator ∙ ap (λ (b : Bool). cond b g 0) y.if-is_set.ensures.the_bit_there)
+      | then-is_set y ↦ y.register-is ∙ ap₂ bit_xor moved (eg ∙ ap (λ (b : Bool). cond b g 0) y.if-is_set.ensures.the_bit_there)
       | else-is_set y ↦
-          y.register-is ∙ sym (xor_zero_r c.times_x-register.result)
-          ∙ ap₂ bit_xor c.times_x-register.ensures.moves_up_and_reduces (ap (λ (b : Bool). cond b g 0) y.if-is_set.ensures.the_bit_there)
+          y.register-is ∙ sym (xor_zero_r c.times_x-register.result) ∙ ap₂ bit_xor moved (ap (λ (b : Bool). cond b g 0) y.if-is_set.ensures.the_bit_there)
     ] in
     runs.turn (times_x n g) g 0 c.loop-skip.register c.if-is_set.register w i (omega (arith, c.loop-skip-test.true, c.requires.enough)) v c.loop-skip.invariant
 
