@@ -20,8 +20,8 @@ use Rattle.bch.specs.Decoding.{all_vanish, inverse_or_0, root_at, root_marks}
 use Rattle.bch.specs.Theory.AnyPoints.{locator_sum}
 use Rattle.bch.specs.Theory.Points as points
 use Rattle.bch.specs.Theory.Tested.{tested}
-use Rattle.bch.specs.Theory.Decoder as decoder
-use Rattle.bch.specs.Theory.Flips.{marks_ext, marks_length}
+use Rattle.bch.proofs.Decoder as decoder
+use Rattle.bch.proofs.Flips.{marks_ext, marks_length}
 use Rattle.bch.proofs.Padded.{same_roots}
 use Rattle.bch.proofs.Rest.{same_syndromes, codeword, no_codeword, given, is_0}
 use Rattle.bch.specs.Theory.AnyPoints.{units, flips}

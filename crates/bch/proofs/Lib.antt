@@ -1,3 +1,7 @@
+pub mod Kept
+pub mod Flips
+pub mod Kernel
+pub mod Decoder
 pub mod Padded
 pub mod Correcting
 pub mod Runs

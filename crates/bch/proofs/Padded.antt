@@ -4,7 +4,7 @@ use lib.Bits.{bit_xor, xor_zero_r}
 use Rattle.gf2.specs.Polynomials.{power}
 use Rattle.bch.specs.Decoding.{all_vanish}
 use Rattle.bch.specs.Elimination.{against, add_scaled, cleared, met_one, met_all, unit_rows}
-use Rattle.bch.specs.Theory.Kept.{Short, met_one_keeps, met_all_keeps, units_short, sum_short}
+use Rattle.bch.proofs.Kept.{Short, met_one_keeps, met_all_keeps, units_short, sum_short}
 use Rattle.bch.specs.Theory.AnyPoints.{units}
 
 -- the polynomial with w coefficients

@@ -1,10 +1,9 @@
--- The decoder over any product m with inverses inv and any distinct points: a i is the point of the bit that has i bits behind it.
-use Rattle.std.proofs.Common.{◌≡◌, ℕ, zero, suc, ◌+◌, ◌≤◌, Bool, cond, leb, List, [], ◌∷◌, map, length}
+-- Syndromes and flips over any product m with inverses inv and any distinct points: a i is the point of the bit that has i bits behind it.
+use Rattle.std.proofs.Common.{◌≡◌, ℕ, zero, suc, ◌+◌, ◌≤◌, Bool, cond, List, [], ◌∷◌, map, length}
 use lib.Bits.{bit_xor}
-use Rattle.gf2.specs.Words.{add, weight}
 use Rattle.gf2.specs.Polynomials.{power}
 use Rattle.bch.specs.Elimination.{met_all}
-use Rattle.bch.specs.Decoding.{all_vanish, marks, zeros}
+use Rattle.bch.specs.Decoding.{all_vanish, marks}
 
 -- the sum of the powers j of the points of the set bits: the syndrome j
 unfoldable pub locator_sum : (ℕ → ℕ → ℕ) → (ℕ → ℕ) → List Bool → ℕ → ℕ
@@ -22,13 +21,3 @@ units (suc n) = (1 ∷ []) ∷ map (λ p. 0 ∷ p) (units n)
 -- the bits to flip
 unfoldable pub flips : (ℕ → ℕ → ℕ) → (ℕ → ℕ) → (ℕ → ℕ) → ℕ → List Bool → List Bool
 flips m inv a t r = let ps = met_all m inv (locator_sum m a r) t 1 (units (suc t)) in marks (λ i. all_vanish m ps (a i)) (length r)
-
-pub data Answer : Type 0 where
-  found : List Bool → Answer
-  none : Answer
-
-unfoldable pub decode : (ℕ → ℕ → ℕ) → (ℕ → ℕ) → (ℕ → ℕ) → ℕ → List Bool → Answer
-decode m inv a t r =
-    let e = flips m inv a t r in
-    let c = add r e in
-    cond (leb (weight e) t) (cond (zeros (locator_sum m a c) 1 (t + t)) (found c) none) none

@@ -13,11 +13,10 @@ use Rattle.gf2.proofs.Sums.{plus_self, add_length, bits_of_length}
 use Rattle.gf2.proofs.WordLaws.{distance_is_a_metric}
 use Rattle.bch.specs.declared.code.Bch.{Bch}
 use Rattle.bch.specs.Code.{word_value, Codeword}
-use Rattle.bch.specs.Decoding.{inverse_or_0}
 use Rattle.bch.specs.Theory.Orbits.{twice, orbits}
 use Rattle.bch.specs.Settings.{field, errors, word_bits, generator_top, generator_tail, data_bits, check_bits, checks_number}
 use Rattle.bch.specs.InnerLaws.{WordOf, IsInnerCode}
-use Rattle.bch.specs.Theory.Decoder as decoder
+use Rattle.bch.specs.Theory.Distance as distance
 use Rattle.bch.specs.Theory.Generator.{completed}
 use Rattle.bch.specs.Theory.Points as points
 use Rattle.bch.specs.Theory.Tested.{tested}
@@ -61,13 +60,13 @@ module _ (F : Field) (t : ℕ) where
   pub sums : (w x : List Bool) → length w ≡ length x → Codeword F t w → Codeword F t x → Codeword F t (add w x)
   sums w x l a b j p q =
       sym (points.sum_is_syndrome F (add w x) j)
-      ∙ decoder.locator_sum_add (width F) (product F) (five.field F) (inverse_or_0 F) (points.inverts F) (power F alpha) (points.count F) (points.points F) (points.apart F) w x j l
+      ∙ distance.locator_sum_add (width F) (product F) (five.field F) (power F alpha) (points.count F) (points.points F) (points.apart F) w x j l
       ∙ ap₂ bit_xor (points.sum_is_syndrome F w j ∙ a j p q) (points.sum_is_syndrome F x j ∙ b j p q)
 
   pub close : (w x : List Bool) → length w ≡ length x → length w ≤ 2 ^ width F - 1 → Codeword F t w → Codeword F t x → weight (add w x) ≤ t + t → w ≡ x
   close w x l short a b few =
       distance_is_a_metric.none_only_between_equals w x l
-      (decoder.distance (width F) (product F) (five.field F) (inverse_or_0 F) (points.inverts F) (power F alpha) (points.count F) (points.points F) (points.apart F) t
+      (distance.distance (width F) (product F) (five.field F) (power F alpha) (points.count F) (points.points F) (points.apart F) t
       (add w x) (omega (arith, add_length w x l)) (λ j p q. points.sum_is_syndrome F (add w x) j ∙ sums w x l a b j p q) few)
 
 module _ (C : Bch) where

@@ -5,7 +5,7 @@ use Rattle.gf2.specs.Words.{bits, add, weight}
 use Rattle.gf2.specs.Fields.{alpha, product, power}
 use Rattle.bch.specs.Decoding.{all_vanish, marks, root_at}
 use Rattle.bch.specs.Settings.{field, word_bits}
-use Rattle.bch.specs.Theory.Flips.{last_marks, flip_more, skip_more, flip_none, count_more, count_same, count_none}
+use Rattle.bch.proofs.Flips.{last_marks, flip_more, skip_more, flip_none, count_more, count_same, count_none}
 use Rattle.bch.proofs.Terms.{moved_on, same_terms}
 use Rattle.bch.proofs.code.Bch.flip_roots.Goals as goal
 use Rattle.bch.proofs.code.Bch.flip_roots.Goals.{then-vanish, else-vanish}

@@ -3,7 +3,7 @@ use Rattle.gf2.specs.Words.{bits, add, weight}
 use Rattle.gf2.specs.Fields.{alpha, power}
 use Rattle.bch.specs.Decoding.{root_at, root_marks, TermsAt}
 use Rattle.bch.specs.Settings.{field, word_bits}
-use Rattle.bch.specs.Theory.Flips.{last_marks}
+use Rattle.bch.proofs.Flips.{last_marks}
 use Rattle.bch.proofs.code.Bch.flip_roots.Given as goal
 
 -- the bits from `skip` on are done
