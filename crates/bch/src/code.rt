@@ -62,16 +62,16 @@ impl Bch {
     }
 
     // r1, the check bits of a word and the generator's degree.
-    pub(crate) fn degree(self) -> usize
+    pub(crate) fn degree(self) -> u32
         ensures check_bits_of_a_word { result ≡ check_bits_of self }
     {
-        self.generator().top as usize + 1
+        self.generator().top + 1
     }
 
     // k1, the data bits of a word.
     pub(crate) fn data_bits(self) -> usize
         ensures data_bits_of_a_word { result ≡ data_bits_of self }
     {
-        self.word_bits() - self.degree()
+        self.word_bits() - self.degree() as usize
     }
 }

@@ -10,6 +10,9 @@ use arrayvec::ArrayVec;
 use gf2::field::Field;
 use std::array;
 
+// The coefficients of a polynomial, the lowest first.
+pub(crate) type Polynomial = [u16; 6];
+
 // A sequence of elements of a field: its members 0 to 10.
 #[derive(Clone, Copy)]
 pub(crate) struct Sequence {
@@ -18,7 +21,7 @@ pub(crate) struct Sequence {
 }
 
 // a p + q
-fn combined(field: Field, a: u16, p: &[u16; 6], q: &[u16; 6]) -> [u16; 6]
+fn combined(field: Field, a: u16, p: &Polynomial, q: &Polynomial) -> Polynomial
     ensures scaled_sum { result ≡ add_scaled (product field) a p.now q.now }
 {
     array::from_fn(|k| field.product(a, p[k]) ^ q[k])
@@ -35,7 +38,7 @@ fn dot(field: Field, a: &[u16], b: &[u16]) -> u16
 
 impl Sequence {
     // The sum of the coefficients times the members from i on.
-    fn against(&self, poly: &[u16; 6], i: usize) -> u16
+    fn against(&self, poly: &Polynomial, i: usize) -> u16
         requires inside { i < 6 }
         ensures sum_of_products { result ≡ sum_against (product self.now.field) poly.now (sequence self.now.members) i }
     {
@@ -43,7 +46,7 @@ impl Sequence {
     }
 
     // Where the first polynomial is that fails equation i.
-    fn first_failing(&self, i: usize, polys: &[[u16; 6]]) -> Option<usize>
+    fn first_failing(&self, i: usize, polys: &[Polynomial]) -> Option<usize>
         requires inside { i < 6 }
         ensures first_that_is_not_0 { result ≡ position (λ p. not (nat_eq (sum_against (product self.now.field) p (sequence self.now.members) i) 0)) polys.now }
     {
@@ -51,7 +54,7 @@ impl Sequence {
     }
 
     // Adds a polynomial that fails equation i to each of the others so that they meet it.
-    fn clear(&self, i: usize, first: &[u16; 6], others: &mut [[u16; 6]])
+    fn clear(&self, i: usize, first: &Polynomial, others: &mut [Polynomial])
         requires inside { i < 6 }
         ensures others_meet_it { others.new ≡ cleared (product self.now.field) (inverse_or_0 self.now.field) (sequence self.now.members) i first.now others.old }
     {
@@ -63,7 +66,7 @@ impl Sequence {
     }
 
     // One equation: the first polynomial that fails it is taken out, and clears those behind it.
-    fn meet(&self, i: usize, polys: &mut ArrayVec<[u16; 6], 6>)
+    fn meet(&self, i: usize, polys: &mut ArrayVec<Polynomial, 6>)
         requires inside { i < 6 }
         ensures those_that_meet_it { polys.new.items ≡ met_one (product self.now.field) (inverse_or_0 self.now.field) (sequence self.now.members) i polys.old.items }
         ensures one_fewer_at_most { array_vec_len polys.old ≤ array_vec_len polys.new + 1 }
@@ -89,7 +92,7 @@ impl Sequence {
 }
 
 // 1, z and so on to z^5.
-const UNITS: [[u16; 6]; 6] = [
+const UNITS: [Polynomial; 6] = [
     [1, 0, 0, 0, 0, 0],
     [0, 1, 0, 0, 0, 0],
     [0, 0, 1, 0, 0, 0],
@@ -101,6 +104,6 @@ const UNITS: [[u16; 6]; 6] = [
 // The polynomials that the elimination leaves. There is one more at the start than equations, so one at least is left.
 #[derive(Drop)]
 pub(crate) struct Survivors {
-    pub polys: ArrayVec<[u16; 6], 6>,
+    pub polys: ArrayVec<Polynomial, 6>,
     ghost some: { 1 ≤ array_vec_len polys },
 }

@@ -36,7 +36,7 @@ impl Bch {
         for skip in count / 8 * 8..count {
             register = generator.times_x(register);
             if is_set(bytes, skip) {
-                register = register ^ generator.tail;
+                register ^= generator.tail;
             }
         }
         register
@@ -59,7 +59,7 @@ impl Bch {
         ensures checks_asked_for_and_found { result ≡ rest_of_first self (bits word.now) }
     {
         let asked = self.check_bits(word)?;
-        let found = wide_number(word, self.data_bits(), self.degree() as u32)?;
+        let found = wide_number(word, self.data_bits(), self.degree())?;
         Some(asked ^ found)
     }
 
@@ -69,6 +69,6 @@ impl Bch {
         ensures check_bits_follow_the_data { bits word.new ≡ with_checks (data_bits self) (check_bits self) (checks self) (bits word.old) }
     {
         let checks = self.check_bits(word).ok_or(NoRoom)?;
-        put_number(word, self.data_bits(), self.degree() as u32, checks)
+        put_number(word, self.data_bits(), self.degree(), checks)
     }
 }

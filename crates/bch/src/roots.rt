@@ -8,14 +8,14 @@ ghost use Rattle.bch.specs.Decoding.{all_vanish, root_marks, running_value, Term
 ghost use Rattle.bch.specs.Settings.{field as field_of, word_bits};
 
 use crate::code::Bch;
-use crate::eliminate::Survivors;
+use crate::eliminate::{Polynomial, Survivors};
 use crate::syndrome::times_power;
 use gf2::bits::{is_set, put};
 use gf2::field::Field;
 use std::array;
 
 // The polynomial at y, from its highest coefficient down.
-fn value_at(field: Field, poly: &[u16; 6], y: u16) -> u16
+fn value_at(field: Field, poly: &Polynomial, y: u16) -> u16
     ensures value_there { result ≡ running_value field y poly.now }
 {
     poly.iter()
@@ -24,7 +24,7 @@ fn value_at(field: Field, poly: &[u16; 6], y: u16) -> u16
 }
 
 // Whether all the polynomials are 0 at y.
-fn vanish_at(field: Field, polys: &[[u16; 6]], y: u16) -> bool
+fn vanish_at(field: Field, polys: &[Polynomial], y: u16) -> bool
     ensures all_are_0_there { result ≡ list_all (λ p. nat_eq (running_value field y p) 0) polys.now }
 {
     polys.iter().all(|poly| value_at(field, poly, y) == 0)
@@ -39,7 +39,7 @@ struct Terms {
 }
 
 impl Terms {
-    fn at_one(field: Field, poly: &[u16; 6]) -> Terms
+    fn at_one(field: Field, poly: &Polynomial) -> Terms
         ensures in_the_field { result.field ≡ field }
         ensures the_first_point { result.point ≡ 1 }
         ensures its_terms { TermsAt field poly.now 1 result.values }

@@ -16,7 +16,7 @@ pub(crate) fn times_power(field: Field, a: u16, k: usize) -> u16
     ensures product_with_that_power { result ≡ product field (power field alpha k) a }
 {
     let mut moved = field.sum(a, 0);
-    for _i in 0..k {
+    for _ in 0..k {
         moved = field.times_alpha(moved);
     }
     moved
@@ -29,10 +29,11 @@ impl Bch {
     {
         let field = self.field();
         let mut sum = 0;
+        // The place is a shift amount, so a fold over the range reads no plainer.
         for place in (0..self.degree()).rev() {
             sum = times_power(field, sum, j);
             if (number >> place) & 1 == 1 {
-                sum = sum ^ 1;
+                sum ^= 1;
             }
         }
         sum

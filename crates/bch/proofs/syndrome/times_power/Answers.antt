@@ -15,8 +15,8 @@ unfolding power_under
 next F a v i e =
     ap (product F alpha) e ∙ sym ((five.ring F).associative alpha (power F alpha i) a) ∙ ap (λ (j : ℕ). product F (power F alpha j) a) (let n : suc i ≡ i + 1 = omega arith in n)
 
-pub loop-i-init : goal.loop-i-init
-loop-i-init c = c.sum-moved.ensures.sum_of_the_elements ∙ start c.args.field c.args.a
+pub loop-init : goal.loop-init
+loop-init c = c.sum-moved.ensures.sum_of_the_elements ∙ start c.args.field c.args.a
 
-pub loop-i-preserved : goal.loop-i-preserved
-loop-i-preserved c = c.times_alpha-moved.ensures.product_with_alpha ∙ next c.args.field c.args.a c.loop-i.moved c.loop-i._i c.loop-i.invariant
+pub loop-preserved : goal.loop-preserved
+loop-preserved c = c.times_alpha-moved.ensures.product_with_alpha ∙ next c.args.field c.args.a c.loop.moved c.loop.counter c.loop.invariant
