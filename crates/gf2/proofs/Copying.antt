@@ -1,11 +1,12 @@
 -- Runs of bits, read as numbers and written over others.
-use Rattle.std.proofs.Common.{◌≡◌, ℕ, zero, suc, ◌+◌, ◌-◌, ◌*◌, ◌^◌, ◌<◌, ◌≤◌, Bool, true, false, cond, leb, List, [], ◌∷◌, ◌++◌, length, take, drop, set, unwrap_or, sym, refl, ap, ◌∙◌, subst, ap₂, append_assoc, suc-mul, arith, length-append, length-drop, take-append-drop, drop-drop, take_at, drop_at}
-use lib.Seq.{set_split, take-append-add}
+use Rattle.std.proofs.Common.{◌≡◌, ℕ, zero, suc, ◌+◌, ◌-◌, ◌*◌, ◌^◌, ◌<◌, ◌≤◌, Bool, true, false, cond, leb, List, ◌∷◌, ◌++◌, length, take, drop, set, unwrap_or, sym, refl, ap, ◌∙◌, subst, ap₂, suc-mul, arith, length-drop, drop-drop}
+use lib.Seq.{set_split}
 use Rattle.std.proofs.lemmas.List.{length-take-le, take_all}
-use Rattle.std.proofs.lemmas.Bool.{le-leb, lt-leb, leb-true, leb-false}
+use Rattle.std.proofs.lemmas.Bool.{le-leb, leb-true, leb-false}
 use Rattle.gf2.specs.Words.{bits_of, bits, number, number_behind, with_run, both_have, with_bits_of}
 use Rattle.gf2.proofs.Sums.{bits_of_length, number_lt}
 use Rattle.gf2.proofs.Digits.{bits_of_number}
+use Rattle.gf2.proofs.Overwriting.{run_empty, run_on}
 use Rattle.gf2.proofs.Places.{bits_append, bits_take, bits_drop}
 use Rattle.gf2.proofs.Windows.{that_number}
 
@@ -36,40 +37,6 @@ byte_set bs i v h =
     ∙ ap₂ (λ (a b : List Bool). a ++ (bits_of 8 v ++ b)) (bits_take i bs (omega arith))
     (bits_drop (suc i) bs ∙ ap (λ (n : ℕ). drop n (bits bs)) (let e : suc i * 8 ≡ i * 8 + length (bits_of 8 v) = omega (arith, suc-mul i 8, bits_of_length 8 v) in e))
 
--- the next bits of a word
-pub take_sum : (i n : ℕ) (s : List Bool) → i ≤ length s → take (i + n) s ≡ take i s ++ take n (drop i s)
-take_sum i n s h =
-    ap₂ (λ (m : ℕ) (w : List Bool). take (m + n) w) (sym (length-take-le i s h)) (sym (take-append-drop i s)) ∙ take-append-add (take i s) (drop i s) n
-
--- a run that begins where another ends
-pub run_after : (at n : ℕ) (q r w : List Bool) → length q ≡ n → at + n ≤ length w → with_run (at + n) r (with_run at q w) ≡ with_run at (q ++ r) w
-run_after at n q r w long h =
-    ap₂ (λ (a b : List Bool). a ++ (r ++ b)) (ap (take (at + n)) shape ∙ take_at (take at w ++ q) rest (at + n) front)
-    (sym (drop-drop (length r) (at + n) (with_run at q w)) ∙ ap (drop (length r)) (ap (drop (at + n)) shape ∙ drop_at (take at w ++ q) rest (at + n) front) ∙ drop-drop (length r) (at + length q) w)
-    ∙ append_assoc (take at w) q (r ++ drop (at + length q + length r) w)
-    ∙ ap (λ (v : List Bool). take at w ++ v)
-    (sym (append_assoc q r (drop (at + length q + length r) w))
-    ∙ ap (λ (i : ℕ). (q ++ r) ++ drop i w) (let e : at + length q + length r ≡ at + length (q ++ r) = omega (arith, length-append q r) in e))
-  where
-    rest : List Bool
-    rest = drop (at + length q) w
-
-    shape : with_run at q w ≡ (take at w ++ q) ++ rest
-    shape = sym (append_assoc (take at w) q rest)
-
-    front : length (take at w ++ q) ≡ at + n
-    front = omega (arith, length-append (take at w) q, length-take-le at w (omega arith), long)
-
--- an empty run changes nothing
-pub run_empty : (at : ℕ) (w : List Bool) → with_run at [] w ≡ w
-run_empty at w = ap (λ (n : ℕ). take at w ++ drop n w) (let e : at + 0 ≡ at = omega arith in e) ∙ take-append-drop at w
-
--- the next bits of a word over those behind its first
-pub run_on : (at n m p : ℕ) (s w : List Bool) → p ≡ at + n → n + m ≤ length s → p ≤ length w → with_run p (take m (drop n s)) (with_run at (take n s) w) ≡ with_run at (take (n + m) s) w
-run_on at n m p s w e h l =
-    ap (λ (i : ℕ). with_run i (take m (drop n s)) (with_run at (take n s) w)) e
-    ∙ run_after at n (take n s) (take m (drop n s)) w (length-take-le n s (omega arith)) (omega arith) ∙ ap (λ (r : List Bool). with_run at r w) (sym (take_sum n m s (omega arith)))
-
 -- the rest of a word's first k bits, which begins where the first n end unless there is no rest
 pub run_rest : (at n k p : ℕ) (s w : List Bool) → n ≤ k → k ≤ length s → at + n ≤ length w → (n < k → p ≡ at + n)
     → with_run p (take (k - n) (drop n s)) (with_run at (take n s) w) ≡ with_run at (take k s) w
@@ -96,16 +63,6 @@ from_byte bs i s h =
 -- whether both words have the bits
 pub both : (k : ℕ) (v : List Bool) (s : ℕ) (w : List Bool) (at : ℕ) → s + k ≤ length v → at + k ≤ length w → true ≡ both_have k v s w at
 both k v s w at h l = sym (ap (λ (b : Bool). cond b (leb (at + k) (length w)) false) (le-leb (s + k) (length v) h) ∙ le-leb (at + k) (length w) l)
-
-pub first_has_not : (k : ℕ) (v : List Bool) (s : ℕ) (w : List Bool) (at : ℕ) → length v < s + k → false ≡ both_have k v s w at
-first_has_not k v s w at h = sym (ap (λ (b : Bool). cond b (leb (at + k) (length w)) false) (lt-leb (s + k) (length v) h))
-
-pub second_has_not : (k : ℕ) (v : List Bool) (s : ℕ) (w : List Bool) (at : ℕ) → length w < at + k → false ≡ both_have k v s w at
-second_has_not k v s w at h = sym (ap (λ (b : Bool). cond (leb (s + k) (length v)) b false) (lt-leb (at + k) (length w) h) ∙ same (leb (s + k) (length v)))
-  where
-    same : (b : Bool) → cond b false false ≡ false
-    same true = refl
-    same false = refl
 
 -- where they do not, nothing changes
 pub left : (k : ℕ) (v : List Bool) (s : ℕ) (w : List Bool) (at : ℕ) → false ≡ both_have k v s w at → w ≡ with_bits_of k v s w at

@@ -1,43 +1,66 @@
 -- A word with a run of bits over some of its own, one bit after the other.
-use Rattle.std.proofs.Common.{◌≡◌, ℕ, zero, suc, ◌+◌, ◌-◌, ◌*◌, ◌/◌, ◌%◌, ◌<◌, ◌≤◌, Bool, true, false, cond, leb, List, [], ◌∷◌, ◌++◌, length, get_or, take, drop, set, sym, refl, ap, ◌∙◌, ap₂, arith, length-append, length-drop, take-append-drop, drop-drop}
+use Rattle.std.proofs.Common.{◌≡◌, ℕ, suc, ◌+◌, ◌-◌, ◌*◌, ◌/◌, ◌%◌, ◌<◌, ◌≤◌, Bool, true, false, cond, leb, List, [], ◌∷◌, ◌++◌, length, get_or, take, drop, set, sym, refl, ap, ◌∙◌, ap₂, arith, length-append, length-drop, take-append-drop, drop-drop}
 use borrow.Rule.Slice.PartMut.{put_mid}
-use lib.Seq.{take-append-add}
-use Rattle.std.proofs.lemmas.List.{append_assoc, append-nil, drop_all, drop_at, length-take-le, set-append_right, take_all}
+use lib.Seq.{set_split, take-append-add}
+use Rattle.std.proofs.Math.Seq.{take-add}
+use Rattle.std.proofs.lemmas.List.{append_assoc, append-nil, drop_all, drop_at, length-take-le, drop_more, take_all, take_at}
 use Rattle.std.proofs.lemmas.Bool.{le-leb, lt-leb}
 use Rattle.gf2.specs.Words.{bits, bits_of, with_run, room_for, with_number}
 use Rattle.gf2.proofs.Sums.{bits_of_length}
 use Rattle.gf2.proofs.Places.{bits_length, bits_append}
 
--- the first j of s over those of o
-abbrev pub pasted : {A : Type 0} → ℕ → List A → List A → List A
-pasted j s o = take j s ++ drop j o
+-- a run that begins where another ends
+pub run_after : (at n : ℕ) (q r w : List Bool) → length q ≡ n → at + n ≤ length w → with_run (at + n) r (with_run at q w) ≡ with_run at (q ++ r) w
+run_after at n q r w long h =
+    ap₂ (λ (a b : List Bool). a ++ (r ++ b)) (ap (take (at + n)) shape ∙ take_at (take at w ++ q) rest (at + n) front)
+    (sym (drop-drop (length r) (at + n) (with_run at q w)) ∙ ap (drop (length r)) (ap (drop (at + n)) shape ∙ drop_at (take at w ++ q) rest (at + n) front) ∙ drop-drop (length r) (at + length q) w)
+    ∙ append_assoc (take at w) q (r ++ drop (at + length q + length r) w)
+    ∙ ap (λ (v : List Bool). take at w ++ v)
+    (sym (append_assoc q r (drop (at + length q + length r) w))
+    ∙ ap (λ (i : ℕ). (q ++ r) ++ drop i w) (let e : at + length q + length r ≡ at + length (q ++ r) = omega (arith, length-append q r) in e))
+  where
+    rest : List Bool
+    rest = drop (at + length q) w
 
-pub pasted_more : {A : Type 0} (d : A) (j : ℕ) (s o : List A) → j < length s → j < length o → set (pasted j s o) j (get_or s j d) ≡ pasted (j + 1) s o
-pasted_more d zero [] o hs ho = absurd (omega arith)
-pasted_more d zero (b ∷ s) [] hs ho = absurd (omega arith)
-pasted_more d zero (b ∷ s) (x ∷ o) hs ho = refl
-pasted_more d (suc j) [] o hs ho = absurd (omega arith)
-pasted_more d (suc j) (b ∷ s) [] hs ho = absurd (omega arith)
-pasted_more {A} d (suc j) (b ∷ s) (x ∷ o) hs ho =
-    ap (λ (w : List A). b ∷ w) (pasted_more d j s o (omega arith) (omega arith)) ∙ ap (λ (i : ℕ). pasted i (b ∷ s) (x ∷ o)) (let e : suc (j + 1) ≡ suc j + 1 = omega arith in e)
+    shape : with_run at q w ≡ (take at w ++ q) ++ rest
+    shape = sym (append_assoc (take at w) q rest)
 
-pub pasted_length : {A : Type 0} (j : ℕ) (s o : List A) → j ≤ length s → j ≤ length o → length (pasted j s o) ≡ length o
-pasted_length j s o hs ho = omega (arith, length-append (take j s) (drop j o), length-take-le j s hs, length-drop j o)
+    front : length (take at w ++ q) ≡ at + n
+    front = omega (arith, length-append (take at w) q, length-take-le at w (omega arith), long)
 
-run_is : (at j : ℕ) (s w : List Bool) → j ≤ length s → with_run at (take j s) w ≡ take at w ++ pasted j s (drop at w)
-run_is at j s w h =
-    ap (λ (n : ℕ). take at w ++ (take j s ++ drop (at + n) w)) (length-take-le j s h)
-    ∙ ap (λ (r : List Bool). take at w ++ (take j s ++ r)) (sym (drop-drop j at w))
+-- an empty run changes nothing
+pub run_empty : (at : ℕ) (w : List Bool) → with_run at [] w ≡ w
+run_empty at w = ap (λ (n : ℕ). take at w ++ drop n w) (let e : at + 0 ≡ at = omega arith in e) ∙ take-append-drop at w
+
+-- the next bits of a word over those behind its first
+pub run_on : (at n m p : ℕ) (s w : List Bool) → p ≡ at + n → n + m ≤ length s → p ≤ length w → with_run p (take m (drop n s)) (with_run at (take n s) w) ≡ with_run at (take (n + m) s) w
+run_on at n m p s w e h l =
+    ap (λ (i : ℕ). with_run i (take m (drop n s)) (with_run at (take n s) w)) e
+    ∙ run_after at n (take n s) (take m (drop n s)) w (length-take-le n s (omega arith)) (omega arith) ∙ ap (λ (r : List Bool). with_run at r w) (sym (take-add n m s))
 
 pub run_more : (at j : ℕ) (s w : List Bool) → j < length s → at + j < length w
     → set (with_run at (take j s) w) (at + j) (get_or s j false) ≡ with_run at (take (j + 1) s) w
 run_more at j s w hs hw =
-    ap (λ (o : List Bool). set o (at + j) (get_or s j false)) (run_is at j s w (omega arith))
-    ∙ set-append_right (take at w) (pasted j s (drop at w)) at (at + j) (get_or s j false) (length-take-le at w (omega arith)) (omega arith)
-    ∙ ap (λ (o : List Bool). take at w ++ o)
-    (ap (λ (i : ℕ). set (pasted j s (drop at w)) i (get_or s j false)) (let e : at + j - at ≡ j = omega arith in e)
-    ∙ pasted_more false j s (drop at w) hs (omega (arith, length-drop at w)))
-    ∙ sym (run_is at (j + 1) s w (omega arith))
+    set_split r (at + j) (get_or s j false) (omega (arith, hw, long))
+    ∙ ap₂ (λ (x : List Bool) (i : ℕ). take (at + j) r ++ (x ++ drop i r)) next (let e : suc (at + j) ≡ at + j + length (take 1 (drop j s)) = omega (arith, ap length next) in e)
+    ∙ run_on at j 1 (at + j) s w refl (omega arith) (omega arith)
+  where
+    r : List Bool
+    r = with_run at (take j s) w
+
+    next : get_or s j false ∷ [] ≡ take 1 (drop j s)
+    next = sym (ap (take 1) (drop_more s j false hs))
+
+    long : length r ≡ length w
+    long =
+        omega (
+          arith,
+          length-append (take at w) (take j s ++ drop (at + length (take j s)) w),
+          length-append (take j s) (drop (at + length (take j s)) w),
+          length-take-le at w (omega arith),
+          length-take-le j s (omega arith),
+          length-drop (at + length (take j s)) w,
+        )
 
 -- no bit of the run yet
 pub run_none : (at : ℕ) (s w : List Bool) → w ≡ with_run at (take 0 s) w

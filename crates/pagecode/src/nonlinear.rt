@@ -21,8 +21,8 @@ pub enum Misfit {
 impl fmt::Display for Misfit {
     fn fmt<W: fmt::Write>(&self, f: &mut fmt::Formatter<W>) -> fmt::Result {
         f.write_str(match self {
-            Misfit::NoField => "no field has elements of that many bits",
-            Misfit::Length => "the number of bits does not fit",
+            Self::NoField => "no field has elements of that many bits",
+            Self::Length => "the number of bits does not fit",
         })
     }
 }

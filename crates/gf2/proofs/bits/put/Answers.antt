@@ -1,8 +1,8 @@
-use Rattle.std.proofs.Common.{◌≡◌, ℕ, ◌-◌, ◌*◌, ◌/◌, ◌%◌, ◌^◌, Bool, true, false, not, ◌≢◌, get_or, set, sym, refl, ap, ◌∙◌, arith}
+use Rattle.std.proofs.Common.{◌≡◌, ℕ, ◌-◌, ◌*◌, ◌/◌, ◌%◌, ◌^◌, Bool, true, false, not, ◌≢◌, get_or, set, sym, ap, ◌∙◌, arith}
 use mathlib.Core.Bool.{beq}
 use lib.Bits.{bit_xor}
 use Rattle.std.proofs.lemmas.Nat.{one_shl}
-use Rattle.std.proofs.lemmas.List.{set_past, set-get_or}
+use Rattle.std.proofs.lemmas.List.{set_past}
 use Rattle.gf2.specs.Words.{bits}
 use Rattle.gf2.proofs.Numbered.{byte_put, past_bytes}
 use Rattle.gf2.proofs.bits.put.Goals as goal
@@ -13,12 +13,6 @@ differs true true h e = let z : ◌≡◌ {A = ℕ} 0 1 = cc in omega arith
 differs true false h e = let z : ◌≡◌ {A = ℕ} 0 1 = cc in omega arith
 differs false true h e = let z : ◌≡◌ {A = ℕ} 0 1 = cc in omega arith
 differs false false h e = let z : ◌≡◌ {A = ℕ} 0 1 = cc in omega arith
-
-agrees : (a b : Bool) → not (beq a b) ≡ false → a ≡ b
-agrees true true h = refl
-agrees true false h = h
-agrees false true h = sym h
-agrees false false h = refl
 
 pub returns-then-skip-bytes : goal.returns-then-skip-bytes
 returns-then-skip-bytes c =
@@ -36,13 +30,4 @@ returns-then-is_set-wanted c =
     record {
       only_that_bit_is_set_so =
           ap (λ (m : ℕ). bits (set bs (s / 8) (bit_xor (get_or bs (s / 8) 0) m))) mask ∙ byte_put bs s c.args.wanted c.if-skip-bytes.false other;
-    }
-
-pub returns-else-is_set-wanted : goal.returns-else-is_set-wanted
-returns-else-is_set-wanted c =
-    let w = bits c.args.bytes.now in
-    let s = c.args.skip in
-    record {
-      only_that_bit_is_set_so =
-          sym (ap (set w s) (sym (agrees c.is_set.result c.args.wanted c.if-is_set-wanted.false) ∙ c.is_set.ensures.the_bit_there) ∙ set-get_or w s false);
     }

@@ -3,11 +3,8 @@ use lib.Bits.{and_mask}
 use Rattle.gf2.specs.Words.{bits, bits_of}
 use Rattle.gf2.proofs.Sums.{bits_of_length}
 use Rattle.gf2.proofs.Digits.{bits_of_at}
-use Rattle.gf2.proofs.Overwriting.{run_more, run_none, run_all}
+use Rattle.gf2.proofs.Overwriting.{run_more, run_all}
 use Rattle.gf2.proofs.bits.write_number.Goals as goal
-
-pub loop-done-init : goal.loop-done-init
-loop-done-init c = run_none c.args.skip (bits_of c.args.count c.args.number) (bits c.args.bytes.now)
 
 pub loop-done-preserved : goal.loop-done-preserved
 loop-done-preserved c =

@@ -2,16 +2,8 @@ use Rattle.std.proofs.Common.{◌-◌, ◌/◌, ◌%◌, Bool, List, length, tak
 use Rattle.gf2.specs.Words.{bits, with_run}
 use Rattle.gf2.proofs.Places.{bits_length, bits_from}
 use Rattle.gf2.proofs.Overwriting.{run_in_bytes}
-use Rattle.gf2.proofs.Copying.{both, first_has_not, left, written}
+use Rattle.gf2.proofs.Copying.{both, written}
 use Rattle.gf2.proofs.runs.copy_bits.Goals as goal
-
-pub returns-then-not-hold_behind : goal.returns-then-not-hold_behind
-returns-then-not-hold_behind c =
-    let ms = c.args.source.now in
-    let v = bits ms in
-    let w = bits c.args.out.now in
-    let e = first_has_not c.args.count v c.args.skip w c.args.at (omega (arith, bits_length ms)) in
-    record { accepts_where_both_have_the_bits = e; copies_those_bits_alone = left c.args.count v c.args.skip w c.args.at e }
 
 pub returns-clause-copies_those_bits_alone : goal.returns-clause-copies_those_bits_alone
 returns-clause-copies_those_bits_alone c =

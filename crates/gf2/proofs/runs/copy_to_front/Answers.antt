@@ -1,12 +1,9 @@
 use Rattle.std.proofs.Common.{◌≡◌, ℕ, ◌+◌, ◌-◌, ◌*◌, ◌/◌, ◌%◌, ◌≤◌, Bool, List, length, take, drop, ap, ◌∙◌, ap₂, arith, length-drop}
 use Rattle.gf2.specs.Words.{bits, with_run}
 use Rattle.gf2.proofs.Places.{bits_length}
-use Rattle.gf2.proofs.Overwriting.{run_none, run_from_byte}
-use Rattle.gf2.proofs.Copying.{byte_set, from_byte, run_on}
+use Rattle.gf2.proofs.Overwriting.{run_from_byte, run_on}
+use Rattle.gf2.proofs.Copying.{byte_set, from_byte}
 use Rattle.gf2.proofs.runs.copy_to_front.Goals as goal
-
-pub loop-i-init : goal.loop-i-init
-loop-i-init c = run_none 0 (drop c.args.skip (bits c.args.source.now)) (bits c.args.out.now)
 
 pub loop-i-preserved : goal.loop-i-preserved
 loop-i-preserved c =

@@ -3,15 +3,12 @@ use Rattle.gf2.specs.Words.{bits}
 use Rattle.gf2.specs.Fields.{width, product, sum}
 use Rattle.gf2.proofs.Five.{field_of_width, field_found}
 use Rattle.pagecode.specs.Groups.{groups, sum_of_products, product_behind}
-use Rattle.pagecode.proofs.Pairs.{double, pair_room, turn, whole, pairs_are, answers_f}
+use Rattle.pagecode.proofs.Pairs.{double, turn, whole, pairs_are, answers_f}
 use Rattle.pagecode.proofs.nonlinear.nonlinear_bits.Goals as goal
 
 pub loop-pair-init : goal.loop-pair-init
 unfolding sum_of_products groups
 loop-pair-init c = (refl, omega arith)
-
-pub overflow_mul-pair : goal.overflow_mul-pair
-overflow_mul-pair c = omega (arith, pair_room c.args.count c.args.width c.loop-pair.pair c.loop-pair-test.true)
 
 pub loop-pair-preserved : goal.loop-pair-preserved
 loop-pair-preserved c =
