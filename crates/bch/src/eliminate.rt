@@ -84,6 +84,7 @@ impl Sequence {
     {
         let mut polys = ArrayVec::from(UNITS);
         polys.truncate(t + 1);
+        // The equations have numbers, which no slice lists.
         for i in 1..t + 1 {
             self.meet(i, &mut polys);
         }

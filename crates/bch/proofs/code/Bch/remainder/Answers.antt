@@ -65,10 +65,3 @@ loop-skip-preserved c =
           y.register-is ∙ sym (xor_zero_r c.times_x-register.result) ∙ ap₂ bit_xor moved (ap (λ (b : Bool). cond b g 0) y.if-is_set.ensures.the_bit_there)
     ] in
     runs.turn (times_x n g) g 0 c.loop-skip.register c.if-is_set.register w i (omega (arith, c.loop-skip-test.true, c.requires.enough)) v c.loop-skip.invariant
-
-pub returns : goal.returns
-returns c =
-    record {
-      of_those_bits = c.loop-skip.invariant
-          ∙ ap (λ (k : ℕ). checks_number c.args.self (take k (bits c.args.bytes.now))) (let e : c.loop-skip.skip ≡ c.args.count = omega arith in e);
-    }
