@@ -54,6 +54,7 @@ loop-skip-preserved c =
     let place : c.loop-skip.skip - 1 ≡ n - 1 - i = omega (arith, inv.3) in
     let inside : i < n = omega (arith, inv.3) in
     let point = next_point F first.field i first.point c.next-first.result.point inv.0 inv.1 c.next-first.ensures.the_next_point in
+    let test : (b : Bool) → b ≡ all_vanish (product first.field) ps first.point → f i ≡ b = λ b e. tested F first.field ps i first.point b inv.0 inv.1 e in
     let moved = c.next-first.ensures.each_by_its_power_of_alpha in (
       c.next-first.ensures.in_the_field ∙ inv.0,
       point ∙ ap (power F alpha) one,
@@ -61,8 +62,8 @@ loop-skip-preserved c =
       elim c.if-vanish.branch [ then-vanish y ↦ omega (arith, y.flips-is, inv.3) | else-vanish y ↦ omega (arith, y.flips-is, inv.3) ],
       elim c.if-vanish.branch [
         | then-vanish y ↦
-            y.flips-is ∙ ap (λ (x : ℕ). x + 1) inv.4 ∙ count_more f i (tested F first.field ps i first.point true inv.0 inv.1 y.if-vanish.ensures.all_are_0_there)
-        | else-vanish y ↦ y.flips-is ∙ inv.4 ∙ count_same f i (tested F first.field ps i first.point false inv.0 inv.1 y.if-vanish.ensures.all_are_0_there)
+            y.flips-is ∙ ap (λ (x : ℕ). x + 1) inv.4 ∙ count_more f i (test true y.if-vanish.ensures.all_are_0_there)
+        | else-vanish y ↦ y.flips-is ∙ inv.4 ∙ count_same f i (test false y.if-vanish.ensures.all_are_0_there)
       ]
           ∙ ap (λ (k : ℕ). weight (marks f k)) one,
       elim c.if-vanish.branch [
@@ -71,10 +72,10 @@ loop-skip-preserved c =
             ∙ ap (λ (b : Bool). set (bits c.loop-skip.bytes) (c.loop-skip.skip - 1) (not b)) y.is_set.ensures.the_bit_there
             ∙ ap (λ (j : ℕ). set (bits c.loop-skip.bytes) j (not (get_or (bits c.loop-skip.bytes) j false))) place
             ∙ flip_more f w (bits c.loop-skip.bytes) n i inside c.requires.enough
-            (tested F first.field ps i first.point true inv.0 inv.1 y.if-vanish.ensures.all_are_0_there) inv.5
+            (test true y.if-vanish.ensures.all_are_0_there) inv.5
         | else-vanish y ↦
             ap bits y.bytes-is
-            ∙ skip_more f w (bits c.loop-skip.bytes) n i inside (tested F first.field ps i first.point false inv.0 inv.1 y.if-vanish.ensures.all_are_0_there) inv.5
+            ∙ skip_more f w (bits c.loop-skip.bytes) n i inside (test false y.if-vanish.ensures.all_are_0_there) inv.5
       ]
           ∙ ap (λ (k : ℕ). add w (last_marks f n k)) one,
     )
