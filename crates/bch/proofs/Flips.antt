@@ -60,9 +60,6 @@ flip_none f w n h = sym (ap (λ (j : ℕ). add w (replicate j false ++ [])) (let
     go [] (suc n) h = absurd (omega arith)
     go (b ∷ w) (suc n) h = ap₂ ◌∷◌ (plus_zero b) (go w n (omega arith))
 
-pub flip_all : (f : ℕ → Bool) (w : List Bool) (n i : ℕ) → n ≤ i → i ≤ n → add w (last_marks f n i) ≡ add w (marks f n)
-flip_all f w n i h l = ap₂ (λ (j k : ℕ). add w (replicate j false ++ marks f k)) (let e : n - i ≡ 0 = omega arith in e) (let e : i ≡ n = omega arith in e)
-
 -- the count of marks, one place on
 pub count_more : (f : ℕ → Bool) (i : ℕ) → f i ≡ true → weight (marks f i) + 1 ≡ weight (marks f (i + 1))
 unfolding marks

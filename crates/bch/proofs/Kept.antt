@@ -2,7 +2,7 @@
 use Rattle.std.proofs.Common.{ℕ, zero, suc, ◌≤◌, Bool, true, false, eqb, List, [], ◌∷◌, map, length, arith}
 use Rattle.std.specs.List.{AllByRecursion as All}
 use Rattle.bch.specs.Elimination.{against, add_scaled, cleared, met_one, met_all}
-use Rattle.bch.proofs.AnyPoints.{units}
+use Rattle.bch.specs.Theory.AnyPoints.{units}
 
 module _ (m : ℕ → ℕ → ℕ) (inv s : ℕ → ℕ) (P : List ℕ → Type 0) (stable : (a : ℕ) (p q : List ℕ) → P p → P q → P (add_scaled m a p q)) where
   cleared_keeps : (i : ℕ) (p : List ℕ) (ps : List (List ℕ)) → P p → All P ps → All P (cleared m inv s i p ps)

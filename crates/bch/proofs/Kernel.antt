@@ -13,7 +13,7 @@ use Rattle.gf2.proofs.PowerLaws as powers
 use Rattle.gf2.proofs.Vandermonde as v
 use Rattle.gf2.proofs.Vandermonde.{xor_eq, all_map2}
 use Rattle.bch.proofs.Kept.{met_all_keeps, units_short, sum_short}
-use Rattle.bch.proofs.AnyPoints.{units}
+use Rattle.bch.specs.Theory.AnyPoints.{units}
 
 abbrev pub Member : ℕ → List ℕ → Type 0
 Member y [] = ⊥

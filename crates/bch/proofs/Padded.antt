@@ -5,7 +5,7 @@ use Rattle.gf2.specs.Polynomials.{power}
 use Rattle.bch.specs.Decoding.{all_vanish}
 use Rattle.bch.specs.Elimination.{against, add_scaled, cleared, met_one, met_all, unit_rows}
 use Rattle.bch.proofs.Kept.{Short, met_one_keeps, met_all_keeps, units_short, sum_short}
-use Rattle.bch.proofs.AnyPoints.{units}
+use Rattle.bch.specs.Theory.AnyPoints.{units}
 
 -- the polynomial with w coefficients
 unfoldable pub wide : ℕ → List ℕ → List ℕ

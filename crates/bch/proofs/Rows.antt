@@ -1,135 +1,153 @@
--- One turn of each loop of the elimination, on lists.
-use Rattle.std.proofs.Common.{◌≡◌, ℕ, suc, ◌+◌, ◌-◌, ◌<◌, ◌≤◌, Bool, true, false, cond, eqb, ◌≢◌, List, [], ◌∷◌, ◌++◌, length, get_or, take, drop, set, sym, refl, ap, ◌∙◌, ap₂, arith}
-use lib.Bits.{bit_xor}
-use Rattle.std.proofs.lemmas.List.{append-nil, append_assoc, drop_all, drop_more, drop-set-lt, take_more, take_more_set, at_drop_all, take_all}
-use Rattle.std.proofs.lemmas.Bool.{ne_eqb}
+-- The elimination's steps on lists, as the code takes them.
+use Rattle.std.proofs.Common.{◌≡◌, ℕ, zero, suc, ◌+◌, ◌-◌, ◌<◌, ◌≤◌, Bool, true, false, cond, not, ◌&&◌, eqb, eq-eqb, ◌≢◌, List, [], ◌∷◌, ◌++◌, length, get_or, take, drop, set, Some, None, sym, refl, ap, ◌∙◌, ap₂, arith, length-append, length-drop}
+use lib.Bits.{bit_xor, xor_assoc, xor_zero_r}
+use Rattle.std.specs.List.{fold, list_all, position, position_from, remove, zip}
+use Rattle.std.proofs.lemmas.Bool.{eqb-true, false≢true, ne_eqb, true≢false}
+use Rattle.std.proofs.lemmas.Iterator.Adapters.{position_from-zero}
+use Rattle.std.proofs.lemmas.List.{append-nil, append_assoc, drop_all, drop_at, drop_more, drop-set-lt, get_or_default, length-take-le, take_all, take_at, take_more_set}
+use Rattle.std.proofs.lemmas.List.Quantifiers.{position-Some}
 use Rattle.gf2.specs.Polynomials.{power}
 use Rattle.bch.specs.Decoding.{all_vanish}
-use Rattle.bch.specs.Elimination.{against, add_scaled, cleared, met_one}
+use Rattle.bch.specs.Elimination.{against, add_scaled, cleared, met_one, sequence}
+
+-- a number that is not 0, as the search for the first tests it
+unless_0 : (x : ℕ) → not (eqb x 0) ≡ true → x ≢ 0
+unless_0 x h e = false≢true (sym (ap not (eq-eqb x 0 e)) ∙ h)
+
+if_0 : (x : ℕ) → not (eqb x 0) ≡ false → x ≡ 0
+if_0 x h = eqb-true x 0 (go (eqb x 0) h)
+  where
+    go : (b : Bool) → not b ≡ false → b ≡ true
+    go true h = refl
+    go false h = absurd (true≢false h)
+
+-- what a write behind j leaves
+written : (xs qs os : List (List ℕ)) (j : ℕ) → xs ≡ qs → j ≤ length qs → length os ≡ length xs - j
+    → take (length qs) ((take j xs ++ (os ++ drop (length xs - j) (drop j xs))) ++ drop (length (take j xs ++ (os ++ drop (length xs - j) (drop j xs)))) qs) ≡ take j qs ++ os
+written xs qs os j e h l =
+    let none : drop (length xs - j) (drop j xs) ≡ [] = drop_all (length xs - j) (drop j xs) (omega (arith, length-drop j xs)) in
+    let all : take j xs ++ (os ++ drop (length xs - j) (drop j xs)) ≡ take j qs ++ os =
+    ap₂ (λ (x y : List (List ℕ)). take j x ++ (os ++ y)) e none ∙ ap (λ (y : List (List ℕ)). take j qs ++ y) (append-nil os) in
+    take_at (take j xs ++ (os ++ drop (length xs - j) (drop j xs))) (drop (length (take j xs ++ (os ++ drop (length xs - j) (drop j xs)))) qs) (length qs)
+    (ap length all ∙ (let n : length (take j qs ++ os) ≡ length qs = omega (arith, length-append (take j qs) os, length-take-le j qs h, ap length e) in n))
+    ∙ all
 
 module _ (m : ℕ → ℕ → ℕ) where
-  pub against_none : (xs : List ℕ) (s : ℕ → ℕ) (k i : ℕ) → length xs ≤ k → 0 ≡ against m (drop k xs) s i
+  dot_from : (p s : List ℕ) (i a : ℕ) → i + length p ≤ length s → fold (λ (sum : ℕ) (x : ℕ × ℕ). bit_xor sum (m x.0 x.1)) a (zip p (drop i s)) ≡ bit_xor a (against m p (sequence s) i)
   unfolding against
-  against_none xs s k i h = sym (at_drop_all (λ (ys : List ℕ). against m ys s i) xs k h)
+  dot_from [] s i a h = sym (xor_zero_r a)
+  dot_from (c ∷ p) s i a h =
+      ap (λ (ys : List ℕ). fold (λ (sum : ℕ) (x : ℕ × ℕ). bit_xor sum (m x.0 x.1)) a (zip (c ∷ p) ys)) (drop_more s i 0 (omega arith))
+      ∙ ap (λ (j : ℕ). fold (λ (sum : ℕ) (x : ℕ × ℕ). bit_xor sum (m x.0 x.1)) (bit_xor a (m c (get_or s i 0))) (zip p (drop j s))) (let e : i + 1 ≡ suc i = omega arith in e)
+      ∙ dot_from p s (suc i) (bit_xor a (m c (get_or s i 0))) (omega arith)
+      ∙ xor_assoc a (m c (get_or s i 0)) (against m p (sequence s) (suc i))
 
-  pub against_turn : (xs : List ℕ) (s : ℕ → ℕ) (i k : ℕ) → 0 < k → k ≤ length xs
-      → bit_xor (m (get_or xs (k - 1) 0) (s (i + (k - 1)))) (against m (drop k xs) s (i + k)) ≡ against m (drop (k - 1) xs) s (i + (k - 1))
+  -- the products with the members from i on
+  pub dot_is_against : (p s part : List ℕ) (i : ℕ) → part ≡ drop i s → i + length p ≤ length s
+      → fold (λ (sum : ℕ) (x : ℕ × ℕ). bit_xor sum (m x.0 x.1)) 0 (zip p part) ≡ against m p (sequence s) i
+  dot_is_against p s part i e h = ap (λ (ys : List ℕ). fold (λ (sum : ℕ) (x : ℕ × ℕ). bit_xor sum (m x.0 x.1)) 0 (zip p ys)) e ∙ dot_from p s i 0 h
+
+  -- the sum of a polynomial's terms
+  pub terms_add_up : (p xs : List ℕ) (s : ℕ → ℕ) (i a : ℕ) → length xs ≡ length p → ((k : ℕ) → k < length p → get_or xs k 0 ≡ m (get_or p k 0) (s (i + k)))
+      → fold bit_xor a xs ≡ bit_xor a (against m p s i)
   unfolding against
-  against_turn xs s i k h l =
-      ap₂ (λ (a b : ℕ). bit_xor (m (get_or xs (k - 1) 0) (s (i + (k - 1)))) (against m (drop a xs) s b))
-      (let e : k ≡ k - 1 + 1 = omega arith in e) (let e : i + k ≡ suc (i + (k - 1)) = omega arith in e)
-      ∙ sym (ap (λ (ys : List ℕ). against m ys s (i + (k - 1))) (drop_more xs (k - 1) 0 (omega arith)))
+  terms_add_up [] [] s i a l h = sym (xor_zero_r a)
+  terms_add_up [] (x ∷ xs) s i a l h = absurd (omega arith)
+  terms_add_up (c ∷ p) [] s i a l h = absurd (omega arith)
+  terms_add_up (c ∷ p) (x ∷ xs) s i a l h =
+      terms_add_up p xs s (suc i) (bit_xor a x) (omega arith) (λ k u. h (suc k) (omega arith) ∙ ap (λ (j : ℕ). m (get_or p k 0) (s j)) (let e : i + suc k ≡ suc i + k = omega arith in e))
+      ∙ ap (λ (y : ℕ). bit_xor (bit_xor a y) (against m p s (suc i))) (h 0 (omega arith) ∙ ap (λ (j : ℕ). m c (s j)) (let e : i + 0 ≡ i = omega arith in e))
+      ∙ xor_assoc a (m c (s i)) (against m p s (suc i))
 
-  pub add_scaled_turn : (a : ℕ) (p r q : List ℕ) (k : ℕ) → k < length p → k < length r
-      → take k r ++ add_scaled m a (drop k p) (drop k r) ≡ q
-      → let v = bit_xor (m a (get_or p k 0)) (get_or r k 0) in take (k + 1) (set r k v) ++ add_scaled m a (drop (k + 1) p) (drop (k + 1) (set r k v)) ≡ q
+  -- a sum of multiples by its coefficients
+  pub add_scaled_is : (a : ℕ) (p q r : List ℕ) → length p ≡ length q → length r ≡ length q
+      → ((k : ℕ) → k < length q → get_or r k 0 ≡ bit_xor (m a (get_or p k 0)) (get_or q k 0)) → r ≡ add_scaled m a p q
   unfolding add_scaled
-  add_scaled_turn a p r q k hp hr e =
-      let v = bit_xor (m a (get_or p k 0)) (get_or r k 0) in
-      ap₂ (λ (x y : List ℕ). x ++ add_scaled m a (drop (k + 1) p) y) (take_more_set r k v hr) (drop-set-lt (k + 1) r k v (omega arith))
-      ∙ append_assoc (take k r) (v ∷ []) (add_scaled m a (drop (k + 1) p) (drop (k + 1) r))
-      ∙ ap₂ (λ (x y : List ℕ). take k r ++ add_scaled m a x y) (sym (drop_more p k 0 hp)) (sym (drop_more r k 0 hr))
-      ∙ e
+  add_scaled_is a [] [] [] l n h = refl
+  add_scaled_is a (c ∷ p) (d ∷ q) (e ∷ r) l n h = ap₂ ◌∷◌ (h 0 (omega arith)) (add_scaled_is a p q r (omega arith) (omega arith) (λ k u. h (suc k) (omega arith)))
+  add_scaled_is a [] [] (e ∷ r) l n h = absurd (omega arith)
+  add_scaled_is a [] (d ∷ q) r l n h = absurd (omega arith)
+  add_scaled_is a (c ∷ p) [] r l n h = absurd (omega arith)
+  add_scaled_is a (c ∷ p) (d ∷ q) [] l n h = absurd (omega arith)
 
-  pub add_scaled_end : (a : ℕ) (p r q : List ℕ) (k : ℕ) → length p ≤ k → length r ≤ k → take k r ++ add_scaled m a (drop k p) (drop k r) ≡ q → r ≡ q
-  unfolding add_scaled
-  add_scaled_end a p r q k hp hr e =
-      sym (append-nil r) ∙ ap₂ ◌++◌ (sym (take_all k r hr)) (sym (ap₂ (add_scaled m a) (drop_all k p hp) (drop_all k r hr))) ∙ e
+  all_values_0 : (value : List ℕ → ℕ) (y : ℕ) → ((p : List ℕ) → value p ≡ against m p (power m y) 0) → (ps : List (List ℕ))
+      → list_all (λ (p : List ℕ). eqb (value p) 0) ps ≡ all_vanish m ps y
+  unfolding all_vanish
+  all_values_0 value y h [] = refl
+  all_values_0 value y h (p ∷ ps) =
+      both (eqb (value p) 0) (list_all (λ (p : List ℕ). eqb (value p) 0) ps)
+      ∙ ap₂ (λ (x : ℕ) (b : Bool). cond (eqb x 0) b false) (h p) (all_values_0 value y h ps)
+    where
+      both : (a b : Bool) → (a && b) ≡ cond a b false
+      both true b = refl
+      both false b = refl
+
+  pub all_vanish_is : (value : List ℕ → ℕ) (y : ℕ) (qs ps : List (List ℕ)) → qs ≡ ps → ((p : List ℕ) → value p ≡ against m p (power m y) 0)
+      → list_all (λ (p : List ℕ). eqb (value p) 0) qs ≡ all_vanish m ps y
+  all_vanish_is value y qs ps e h = ap (list_all (λ (p : List ℕ). eqb (value p) 0)) e ∙ all_values_0 value y h ps
 
   module _ (inv s : ℕ → ℕ) (i : ℕ) where
-    -- what is left from k on
-    rest : (ps : List (List ℕ)) (n k : ℕ) → k < n → k < length ps → take (n - k) (drop k ps) ≡ get_or ps k [] ∷ take (n - (k + 1)) (drop (k + 1) ps)
-    rest ps n k h l = ap₂ take (let e : n - k ≡ suc (n - (k + 1)) = omega arith in e) (drop_more ps k [] l)
+    abbrev fails : List ℕ → Bool
+    fails p = not (eqb (against m p s i) 0)
 
-    pub cleared_turn : (p q v : List ℕ) (ps qs : List (List ℕ)) (n k : ℕ) → k + 1 < n → n ≤ length ps
-        → q ≡ get_or ps (k + 1) []
+    -- one polynomial more is cleared
+    pub cleared_turn : (p q v : List ℕ) (ps qs : List (List ℕ)) (k : ℕ) → k < length ps → q ≡ get_or ps k []
         → v ≡ add_scaled m (m (against m q s i) (inv (against m p s i))) p q
-        → take k ps ++ cleared m inv s i p (take (n - 1 - k) (drop (k + 1) ps)) ≡ qs
-        → take (k + 1) (set ps k v) ++ cleared m inv s i p (take (n - 1 - (k + 1)) (drop (k + 1 + 1) (set ps k v))) ≡ qs
+        → take k ps ++ cleared m inv s i p (drop k ps) ≡ qs
+        → take (k + 1) (set ps k v) ++ cleared m inv s i p (drop (k + 1) (set ps k v)) ≡ qs
     unfolding cleared
-    cleared_turn p q v ps qs n k h l eq ev e =
-        ap₂ (λ (x y : List (List ℕ)). x ++ cleared m inv s i p (take (n - 1 - (k + 1)) y)) (take_more_set ps k v (omega arith)) (drop-set-lt (k + 1 + 1) ps k v (omega arith))
-        ∙ append_assoc (take k ps) (v ∷ []) (cleared m inv s i p (take (n - 1 - (k + 1)) (drop (k + 1 + 1) ps)))
-        ∙ ap (λ (x : List ℕ). take k ps ++ (x ∷ cleared m inv s i p (take (n - 1 - (k + 1)) (drop (k + 1 + 1) ps)))) ev
-        ∙ ap (λ (x : List (List ℕ)). take k ps ++ cleared m inv s i p x) (sym right)
+    cleared_turn p q v ps qs k h eq ev e =
+        ap₂ (λ (x y : List (List ℕ)). x ++ cleared m inv s i p y) (take_more_set ps k v h) (drop-set-lt (k + 1) ps k v (omega arith))
+        ∙ append_assoc (take k ps) (v ∷ []) (cleared m inv s i p (drop (k + 1) ps))
+        ∙ ap (λ (x : List ℕ). take k ps ++ (x ∷ cleared m inv s i p (drop (k + 1) ps))) ev
+        ∙ ap (λ (x : List (List ℕ)). take k ps ++ cleared m inv s i p x) (ap (λ (x : List ℕ). x ∷ drop (k + 1) ps) eq ∙ sym (drop_more ps k [] h))
         ∙ e
+
+    pub cleared_end : (p : List ℕ) (ps qs : List (List ℕ)) (k : ℕ) → length ps ≤ k → take k ps ++ cleared m inv s i p (drop k ps) ≡ qs → ps ≡ qs
+    unfolding cleared
+    cleared_end p ps qs k h e = sym (ap₂ (λ (x y : List (List ℕ)). x ++ cleared m inv s i p y) (take_all k ps h) (drop_all k ps h) ∙ append-nil ps) ∙ e
+
+    -- no polynomial fails
+    pub met_one_none : (n : ℕ) (ps : List (List ℕ)) → position_from fails n ps ≡ None → met_one m inv s i ps ≡ ps
+    unfolding met_one
+    met_one_none n [] h = refl
+    met_one_none n (p ∷ ps) h = go (eqb (against m p s i) 0) h (met_one_none (n + 1) ps)
       where
-        right : take (n - 1 - k) (drop (k + 1) ps) ≡ q ∷ take (n - 1 - (k + 1)) (drop (k + 1 + 1) ps)
-        right =
-            ap (λ (z : ℕ). take z (drop (k + 1) ps)) (let e : n - 1 - k ≡ n - (k + 1) = omega arith in e)
-            ∙ rest ps n (k + 1) h (omega arith)
-            ∙ ap₂ (λ (x : List ℕ) (z : ℕ). x ∷ take z (drop (k + 1 + 1) ps)) (sym eq) (let e : n - (k + 1 + 1) ≡ n - 1 - (k + 1) = omega arith in e)
+        go : (b : Bool) → cond (not b) (Some n) (position_from fails (n + 1) ps) ≡ None → (position_from fails (n + 1) ps ≡ None → met_one m inv s i ps ≡ ps)
+            → elim b [ true ↦ p ∷ met_one m inv s i ps | false ↦ cleared m inv s i p ps ] ≡ p ∷ ps
+        go true h ih = ap (λ (x : List (List ℕ)). p ∷ x) (ih h)
+        go false h ih = let z : ◌≡◌ {A = ℕ} 0 1 = cc in absurd (omega arith)
 
-    pub cleared_end : (p : List ℕ) (ps qs : List (List ℕ)) (n k : ℕ) → n - 1 ≤ k → k ≤ n - 1
-        → take k ps ++ cleared m inv s i p (take (n - 1 - k) (drop (k + 1) ps)) ≡ qs → take (n - 1) ps ≡ qs
-    unfolding cleared
-    cleared_end p ps qs n k h l e =
-        ap (λ (z : ℕ). take z ps) (let e : n - 1 ≡ k = omega arith in e)
-        ∙ sym (append-nil (take k ps))
-        ∙ ap (λ (z : ℕ). take k ps ++ cleared m inv s i p (take z (drop (k + 1) ps))) (let e : 0 ≡ n - 1 - k = omega arith in e)
-        ∙ e
-
-    pub met_one_start : (ps : List (List ℕ)) (n : ℕ) → met_one m inv s i (take n ps) ≡ met_one m inv s i (take (n - 0) (drop 0 ps))
-    met_one_start ps n = ap (λ (z : ℕ). met_one m inv s i (take z ps)) (let e : n ≡ n - 0 = omega arith in e)
-
-    pub met_one_kept : (p : List ℕ) (ps : List (List ℕ)) → against m p s i ≡ 0 → met_one m inv s i (p ∷ ps) ≡ p ∷ met_one m inv s i ps
+    -- the one at j is the first that fails
+    met_one_some : (ps : List (List ℕ)) (j : ℕ) → j < length ps → against m (get_or ps j []) s i ≢ 0 → ((k : ℕ) → k < j → against m (get_or ps k []) s i ≡ 0)
+        → met_one m inv s i ps ≡ take j ps ++ cleared m inv s i (get_or ps j []) (drop (j + 1) ps)
     unfolding met_one
-    met_one_kept p ps e = ap (λ (x : ℕ). elim (eqb x 0) [ true ↦ p ∷ met_one m inv s i ps | false ↦ cleared m inv s i p ps ]) e
+    met_one_some [] j h ne z = absurd (omega arith)
+    met_one_some (p ∷ ps) zero h ne z = ap (λ (b : Bool). elim b [ true ↦ p ∷ met_one m inv s i ps | false ↦ cleared m inv s i p ps ]) (ne_eqb (against m p s i) 0 ne)
+    met_one_some (p ∷ ps) (suc j) h ne z =
+        ap (λ (x : ℕ). elim (eqb x 0) [ true ↦ p ∷ met_one m inv s i ps | false ↦ cleared m inv s i p ps ]) (z 0 (omega arith))
+        ∙ ap (λ (x : List (List ℕ)). p ∷ x) (met_one_some ps j (omega arith) ne (λ k u. z (suc k) (omega arith)))
+        ∙ ap (λ (n : ℕ). p ∷ (take j ps ++ cleared m inv s i (get_or ps j []) (drop n (p ∷ ps)))) (let e : suc (j + 1) ≡ suc j + 1 = omega arith in e)
 
-    pub met_one_out : (p : List ℕ) (ps : List (List ℕ)) → against m p s i ≢ 0 → met_one m inv s i (p ∷ ps) ≡ cleared m inv s i p ps
-    unfolding met_one
-    met_one_out p ps ne = ap (λ (b : Bool). elim b [ true ↦ p ∷ met_one m inv s i ps | false ↦ cleared m inv s i p ps ]) (ne_eqb (against m p s i) 0 ne)
+    pub none_fails : (ps qs : List (List ℕ)) → qs ≡ ps → None ≡ position fails qs → met_one m inv s i ps ≡ ps
+    none_fails ps qs e h = met_one_none 0 ps (sym (position_from-zero fails ps) ∙ ap (position fails) (sym e) ∙ sym h)
 
-    pub met_one_turn : (p : List ℕ) (ps qs : List (List ℕ)) (n k : ℕ) → k < n → n ≤ length ps → p ≡ get_or ps k [] → against m p s i ≡ 0
-        → qs ≡ take k ps ++ met_one m inv s i (take (n - k) (drop k ps))
-        → qs ≡ take (k + 1) ps ++ met_one m inv s i (take (n - (k + 1)) (drop (k + 1) ps))
-    met_one_turn p ps qs n k h l eq z e =
-        let left = met_one m inv s i (take (n - (k + 1)) (drop (k + 1) ps)) in
-        e ∙ ap (λ (x : List (List ℕ)). take k ps ++ met_one m inv s i x) (rest ps n k h (omega arith))
-        ∙ ap (λ (x : List ℕ). take k ps ++ met_one m inv s i (x ∷ take (n - (k + 1)) (drop (k + 1) ps))) (sym eq)
-        ∙ ap (λ (x : List (List ℕ)). take k ps ++ x) (met_one_kept p (take (n - (k + 1)) (drop (k + 1) ps)) z)
-        ∙ ap (λ (x : List ℕ). take k ps ++ (x ∷ left)) eq
-        ∙ sym (append_assoc (take k ps) (get_or ps k [] ∷ []) left)
-        ∙ ap (λ (x : List (List ℕ)). x ++ left) (sym (take_more ps k [] (omega arith)))
+    -- the first that fails is taken out, and those behind it are cleared in place
+    pub first_fails : (ps seen qs xs os : List (List ℕ)) (p : List ℕ) (j : ℕ) → seen ≡ ps → Some j ≡ position fails seen → p ≡ get_or ps j p → qs ≡ remove ps j → xs ≡ qs
+        → length os ≡ length (take (length xs - j) (drop j xs)) → os ≡ cleared m inv s i p (take (length xs - j) (drop j xs))
+        → take (length qs) ((take j xs ++ (os ++ drop (length xs - j) (drop j xs))) ++ drop (length (take j xs ++ (os ++ drop (length xs - j) (drop j xs)))) qs) ≡ met_one m inv s i ps
+    first_fails ps seen qs xs os p j same e ep eq ex l eo =
+        written xs qs os j ex (omega (arith, ap length eq, length-append (take j ps) (drop (suc j) ps), long)) (l ∙ length-take-le (length xs - j) (drop j xs) (omega (arith, length-drop j xs)))
+        ∙ ap₂ ◌++◌ (ap (take j) eq ∙ take_at (take j ps) (drop (suc j) ps) j long) (eo ∙ ap₂ (cleared m inv s i) (ep ∙ get_or_default ps j p [] found.0) behind)
+        ∙ sym (met_one_some ps j found.0 (unless_0 (against m (get_or ps j []) s i) found.1) (λ k h. if_0 (against m (get_or ps k []) s i) (found.2 k h)))
+      where
+        found : (j < length ps) × (fails (get_or ps j []) ≡ true) × ((k : ℕ) → k < j → fails (get_or ps k []) ≡ false)
+        found = position-Some fails ps j [] (ap (position fails) (sym same) ∙ sym e)
 
-    pub met_one_end : (ps qs : List (List ℕ)) (n k : ℕ) → n ≤ k → k ≤ n
-        → qs ≡ take k ps ++ met_one m inv s i (take (n - k) (drop k ps)) → take n ps ≡ qs
-    unfolding met_one
-    met_one_end ps qs n k h l e =
-        sym (e ∙ ap (λ (z : ℕ). take k ps ++ met_one m inv s i (take z (drop k ps))) (let e : n - k ≡ 0 = omega arith in e)
-        ∙ append-nil (take k ps) ∙ ap (λ (z : ℕ). take z ps) (let e : k ≡ n = omega arith in e))
+        long : length (take j ps) ≡ j
+        long = length-take-le j ps (omega (arith, found.0))
 
-    pub met_one_found : (p : List ℕ) (ps qs : List (List ℕ)) (n k : ℕ) → k < n → n ≤ length ps → p ≡ get_or ps k [] → against m p s i ≢ 0
-        → qs ≡ take k ps ++ met_one m inv s i (take (n - k) (drop k ps))
-        → take k ps ++ cleared m inv s i (get_or ps k []) (take (n - 1 - k) (drop (k + 1) ps)) ≡ qs
-    met_one_found p ps qs n k h l eq z e =
-        sym
-        (e ∙ ap (λ (x : List (List ℕ)). take k ps ++ met_one m inv s i x) (rest ps n k h (omega arith))
-        ∙ ap (λ (x : List ℕ). take k ps ++ met_one m inv s i (x ∷ take (n - (k + 1)) (drop (k + 1) ps))) (sym eq)
-        ∙ ap (λ (x : List (List ℕ)). take k ps ++ x) (met_one_out p (take (n - (k + 1)) (drop (k + 1) ps)) z)
-        ∙ ap₂ (λ (x : List ℕ) (j : ℕ). take k ps ++ cleared m inv s i x (take j (drop (k + 1) ps))) eq (let e : n - (k + 1) ≡ n - 1 - k = omega arith in e))
-
-  -- sequences that agree where the polynomial looks
-  pub against_same : (p : List ℕ) (s s' : ℕ → ℕ) (i : ℕ) → ((k : ℕ) → i ≤ k → k < i + length p → s k ≡ s' k) → against m p s i ≡ against m p s' i
-  unfolding against
-  against_same [] s s' i h = refl
-  against_same (x ∷ p) s s' i h = ap₂ (λ (a b : ℕ). bit_xor (m x a) b) (h i (omega arith) (omega arith)) (against_same p s s' (suc i) (λ k l u. h k (omega arith) (omega arith)))
-
-  pub root_turn : (y : ℕ) (ps : List (List ℕ)) (b : Bool) (n k : ℕ) → k < n → n ≤ length ps → against m (get_or ps k []) (power m y) 0 ≡ 0
-      → b ≡ all_vanish m (take (n - k) (drop k ps)) y → b ≡ all_vanish m (take (n - (k + 1)) (drop (k + 1) ps)) y
-  unfolding all_vanish
-  root_turn y ps b n k h l z e =
-      e ∙ ap (λ (x : List (List ℕ)). all_vanish m x y) (rest (λ a. a) (λ a. a) 0 ps n k h (omega arith))
-      ∙ ap (λ (x : ℕ). cond (eqb x 0) (all_vanish m (take (n - (k + 1)) (drop (k + 1) ps)) y) false) z
-
-  pub root_fails : (y : ℕ) (ps : List (List ℕ)) (b : Bool) (n k : ℕ) → k < n → n ≤ length ps → against m (get_or ps k []) (power m y) 0 ≢ 0
-      → b ≡ all_vanish m (take (n - k) (drop k ps)) y → false ≡ b
-  unfolding all_vanish
-  root_fails y ps b n k h l z e =
-      sym
-      (e ∙ ap (λ (x : List (List ℕ)). all_vanish m x y) (rest (λ a. a) (λ a. a) 0 ps n k h (omega arith))
-      ∙ ap (λ (t : Bool). cond t (all_vanish m (take (n - (k + 1)) (drop (k + 1) ps)) y) false) (ne_eqb (against m (get_or ps k []) (power m y) 0) 0 z))
-
-  pub root_end : (y : ℕ) (ps : List (List ℕ)) (b : Bool) (n k : ℕ) → n ≤ k → b ≡ all_vanish m (take (n - k) (drop k ps)) y → true ≡ b
-  unfolding all_vanish
-  root_end y ps b n k h e = sym (e ∙ ap (λ (z : ℕ). all_vanish m (take z (drop k ps)) y) (let e : n - k ≡ 0 = omega arith in e))
+        behind : take (length xs - j) (drop j xs) ≡ drop (j + 1) ps
+        behind =
+            take_all (length xs - j) (drop j xs) (omega (arith, length-drop j xs)) ∙ ap (drop j) (ex ∙ eq) ∙ drop_at (take j ps) (drop (suc j) ps) j long
+            ∙ ap (λ (n : ℕ). drop n ps) (let e : suc j ≡ j + 1 = omega arith in e)

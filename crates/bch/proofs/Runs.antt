@@ -1,18 +1,23 @@
--- A value that runs over the first bits of a word: what is left of them leads from any turn to the end.
-use Rattle.std.proofs.Common.{◌≡◌, ℕ, ◌+◌, ◌<◌, ◌≤◌, Bool, false, cond, List, length, get_or, take, drop, sym, ap, ◌∙◌, arith}
+-- A value that runs over the bits of a word.
+use Rattle.std.proofs.Common.{◌≡◌, ℕ, ◌+◌, ◌<◌, Bool, false, cond, List, [], ◌∷◌, ◌++◌, length, get_or, take, sym, refl, ap, ◌∙◌}
 use lib.Bits.{bit_xor}
-use Rattle.std.proofs.lemmas.List.{at_drop_more, at_drop_all, get_or-take, length-take-le}
+use Rattle.std.proofs.lemmas.List.{take_more}
 use Rattle.bch.specs.Checks.{running}
 
 module _ (step : ℕ → ℕ) (e : ℕ) where
-  pub turn : (s v : ℕ) (w : List Bool) (i k q : ℕ) → i < k → k ≤ length w → v ≡ bit_xor (step s) (cond (get_or w i false) e 0)
-      → running step e s (drop i (take k w)) ≡ q → running step e v (drop (i + 1) (take k w)) ≡ q
+  -- over one word and then another
+  pub on : (s : ℕ) (u v : List Bool) → running step e s (u ++ v) ≡ running step e (running step e s u) v
   unfolding running
-  turn s v w i k q h l is inv =
-      let xs = take k w in
-      ap (λ (x : ℕ). running step e x (drop (i + 1) xs)) (is ∙ ap (λ (b : Bool). bit_xor (step s) (cond b e 0)) (sym (get_or-take k w i false h)))
-      ∙ sym (at_drop_more (running step e s) xs i false (omega (arith, length-take-le k w l))) ∙ inv
+  on s [] v = refl
+  on s (b ∷ u) v = on (bit_xor (step s) (cond b e 0)) u v
 
-  pub end : (s : ℕ) (w : List Bool) (i k q : ℕ) → k ≤ i → k ≤ length w → running step e s (drop i (take k w)) ≡ q → s ≡ q
+  bit : (s : ℕ) (b : Bool) → running step e s (b ∷ []) ≡ bit_xor (step s) (cond b e 0)
   unfolding running
-  end s w i k q h l inv = sym (at_drop_all (running step e s) (take k w) i (omega (arith, length-take-le k w l))) ∙ inv
+  bit s b = refl
+
+  -- one bit more
+  pub turn : (z s v : ℕ) (w : List Bool) (i : ℕ) → i < length w → v ≡ bit_xor (step s) (cond (get_or w i false) e 0) → s ≡ running step e z (take i w)
+      → v ≡ running step e z (take (i + 1) w)
+  turn z s v w i h is inv =
+      is ∙ ap (λ (x : ℕ). bit_xor (step x) (cond (get_or w i false) e 0)) inv
+      ∙ sym (ap (running step e z) (take_more w i false h) ∙ on z (take i w) (get_or w i false ∷ []) ∙ bit (running step e z (take i w)) (get_or w i false))

@@ -2,7 +2,6 @@
 use Rattle.std.specs.Prelude.{◌≡◌, ℕ, ◌+◌, ◌≤◌, Bool, cond, List, [], ◌∷◌, length, bit_xor}
 use Rattle.gf2.specs.Polynomials.{power as power_under}
 use Rattle.gf2.specs.declared.field.Field.{Field}
-use Rattle.gf2.specs.Words.{distance}
 use Rattle.gf2.specs.Fields.{product, power, alpha}
 
 -- the word's polynomial at z, under the product m
@@ -16,9 +15,3 @@ syndrome F w j = word_value (product F) (power F alpha j) w
 
 abbrev pub Codeword : Field → ℕ → List Bool → Type 0
 Codeword F t w = (j : ℕ) → 1 ≤ j → j ≤ t + t → syndrome F w j ≡ 0
-
--- c is a codeword at most t bits from the word
-pub record Near (F : Field) (t : ℕ) (word c : List Bool) : Type 0 where
-  pub long : length c ≡ length word
-  pub code : Codeword F t c
-  pub near : distance word c ≤ t

@@ -1,12 +1,11 @@
 -- How a word is corrected: a bit is flipped where the polynomials that are left by the elimination are all 0 at its point.
 -- The point of the bit that has i bits behind it is alpha^i.
-use Rattle.std.specs.Prelude.{ℕ, zero, suc, Bool, true, false, cond, List, [], ◌∷◌, ◌==◌}
+use Rattle.std.specs.Prelude.{◌≡◌, ℕ, zero, suc, ◌<◌, Bool, true, false, cond, List, [], ◌∷◌, length, ◌==◌, fold, reverse}
 use Rattle.std.specs.Option.{unwrap_or}
 use Rattle.gf2.specs.declared.field.Field.{Field}
-use Rattle.gf2.specs.Fields.{alpha, product, power as power_in, inverse}
+use Rattle.gf2.specs.Fields.{alpha, sum, product, power as power_in, inverse}
 use Rattle.gf2.specs.Polynomials.{power}
-use Rattle.bch.specs.Code.{syndrome}
-use Rattle.bch.specs.Elimination.{against}
+use Rattle.bch.specs.Elimination.{against, sequence}
 
 -- the inverse, and 0 for 0
 abbrev pub inverse_or_0 : Field → ℕ → ℕ
@@ -35,6 +34,11 @@ unfoldable pub zeros : (ℕ → ℕ) → ℕ → ℕ → Bool
 zeros s j zero = true
 zeros s j (suc n) = cond (s j == 0) (zeros s (suc j) n) false
 
--- the n syndromes from j on are 0
-abbrev pub syndromes_vanish : Field → List Bool → ℕ → ℕ → Bool
-syndromes_vanish F w = zeros (syndrome F w)
+-- the polynomial at y, from its highest coefficient down
+abbrev pub running_value : Field → ℕ → List ℕ → ℕ
+running_value F y p = fold (λ value c. sum F (product F value y) c) 0 (reverse p)
+
+-- the terms c_k y^k of a polynomial p of six coefficients at y, which the search for common roots moves from point to point
+pub record TermsAt (F : Field) (p : List ℕ) (y : ℕ) (terms : List ℕ) : Type 0 where
+  pub six : length p ≡ 6
+  pub each : (k : ℕ) → k < 6 → sequence terms k ≡ product F (sequence p k) (power_in F y k)

@@ -3,5 +3,7 @@ pub mod Elimination
 pub mod Decoding
 pub mod Checks
 pub mod Settings
-pub mod Nearest
 pub mod InnerLaws
+pub mod Nearest
+pub mod Codes
+pub mod Theory

@@ -1,22 +1,21 @@
--- What the search for the codeword at most t bits away owes.
-use Rattle.std.specs.Prelude.{◌≡◌, ℕ, ◌≤◌, Bool, List, length, take, drop, Some, None, Option}
-use Rattle.gf2.specs.Words.{distance}
+-- What the search for the codeword at most t bits away owes: what any inner code's owes, at the code's values.
+use Rattle.std.specs.Prelude.{ℕ, Bool, List, Option}
+use Rattle.inner.specs.Nearest as general
 use Rattle.bch.specs.declared.code.Bch.{Bch}
-use Rattle.bch.specs.Code.{Near}
-use Rattle.bch.specs.Settings.{field, errors, word_bits}
+use Rattle.bch.specs.InnerLaws.{WordOf}
+use Rattle.bch.specs.Settings.{errors, word_bits}
+
+-- c is a codeword at most t bits from the word
+abbrev pub Near : Bch → List Bool → List Bool → Type 0
+Near C = general.Near (errors C) (WordOf C)
 
 -- the first bits are now the codeword at most t bits away, `flips` of them were changed, and the rest is as it was
-pub record Corrected (C : Bch) (before after : List Bool) (flips : ℕ) : Type 0 where
-  pub enough : word_bits C ≤ length before
-  pub near : Near (field C) (errors C) (take (word_bits C) before) (take (word_bits C) after)
-  pub counts : flips ≡ distance (take (word_bits C) before) (take (word_bits C) after)
-  pub rest : drop (word_bits C) after ≡ drop (word_bits C) before
+abbrev pub Corrected : Bch → List Bool → List Bool → ℕ → Type 0
+Corrected C = general.Corrected (word_bits C) (errors C) (WordOf C)
 
 -- there are too few bits, or no codeword is at most t bits away; nothing has changed
-pub record LeftAlone (C : Bch) (before after : List Bool) : Type 0 where
-  pub same : after ≡ before
-  pub none : word_bits C ≤ length before → (c : List Bool) → Near (field C) (errors C) (take (word_bits C) before) c → ⊥
+abbrev pub LeftAlone : Bch → List Bool → List Bool → Type 0
+LeftAlone C = general.LeftAlone (word_bits C) (errors C) (WordOf C)
 
 abbrev pub Nearest : Bch → List Bool → List Bool → Option ℕ → Type 0
-Nearest C before after (Some flips) = Corrected C before after flips
-Nearest C before after None = LeftAlone C before after
+Nearest C = general.Nearest (word_bits C) (errors C) (WordOf C)

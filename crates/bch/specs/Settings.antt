@@ -1,5 +1,6 @@
 -- The BCH codes in use: their fields, the bits t that they correct, their lengths and generators.
-use Rattle.std.specs.Prelude.{ℕ, suc, ◌-◌, Bool, cond, List, length, take, Some, None, Option, nat_le}
+use Rattle.std.specs.Prelude.{ℕ, suc, ◌-◌, Bool, cond, List, length, take, drop, Some, None, Option, bit_xor, nat_le}
+use Rattle.gf2.specs.Words.{bits_of, number}
 use Rattle.gf2.specs.declared.field.Field.{Field}
 use Rattle.gf2.specs.declared.field.Field.TheVariants.{Five, Fourteen}
 use Rattle.bch.specs.declared.code.Bch.{Bch}
@@ -41,6 +42,18 @@ data_bits C = word_bits C - check_bits C
 abbrev pub checks_number : Bch → List Bool → ℕ
 checks_number C = remainder (generator_top C) (generator_tail C) 0
 
+-- the check bits of the data
+abbrev pub checks : Bch → List Bool → List Bool
+checks C d = bits_of (check_bits C) (checks_number C d)
+
 -- the check bits of the first data bits, or none where there are fewer
 abbrev pub checks_of_first : Bch → List Bool → Option ℕ
 checks_of_first C w = cond (nat_le (data_bits C) (length w)) (Some (checks_number C (take (data_bits C) w))) None
+
+-- the check bits that the first data bits ask for, added to those that follow them, as a number
+abbrev pub rest : Bch → List Bool → ℕ
+rest C w = bit_xor (checks_number C (take (data_bits C) w)) (number (take (check_bits C) (drop (data_bits C) w)))
+
+-- the same of the first bits, or none where there are too few for a codeword
+abbrev pub rest_of_first : Bch → List Bool → Option ℕ
+rest_of_first C w = cond (nat_le (word_bits C) (length w)) (Some (rest C w)) None

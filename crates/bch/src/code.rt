@@ -1,8 +1,9 @@
 // The BCH codes in use.
 ghost use Rattle.std.specs.Prelude.{◌≡◌};
-ghost use Rattle.bch.specs.Settings.{field as field_of, errors as errors_of, word_bits as word_bits_of, generator_top as generator_top_of, generator_tail as generator_tail_of};
+ghost use Rattle.bch.specs.Settings.{field as field_of, errors as errors_of, word_bits as word_bits_of, data_bits as data_bits_of, check_bits as check_bits_of, generator_top, generator_tail};
 
 use gf2::field::Field;
+use gf2::modulus::Modulus;
 
 // A code by its setting.
 #[derive(Clone, Copy)]
@@ -43,23 +44,34 @@ impl Bch {
         }
     }
 
-    // One less than the generator's degree, which is the number of check bits.
-    pub(crate) fn generator_top(self) -> u32
-        ensures one_less_than_the_check_bits { result ≡ generator_top_of self }
+    // The generator: x^r1 and its lower terms.
+    pub(crate) fn generator(self) -> Modulus
+        ensures one_less_than_the_degree { result.top ≡ generator_top self }
+        ensures lower_terms { result.tail ≡ generator_tail self }
     {
         match self {
-            Bch::Worked => 9,
-            Bch::Long => 69,
+            Bch::Worked => Modulus {
+                top: 9,
+                tail: 0b11_0110_1001,
+            },
+            Bch::Long => Modulus {
+                top: 69,
+                tail: 0xE_8FD4_F615_5365_4087,
+            },
         }
     }
 
-    // The generator without its highest term.
-    pub(crate) fn generator_tail(self) -> u128
-        ensures lower_terms_of_the_generator { result ≡ generator_tail_of self }
+    // r1, the check bits of a word and the generator's degree.
+    pub(crate) fn degree(self) -> u32
+        ensures check_bits_of_a_word { result ≡ check_bits_of self }
     {
-        match self {
-            Bch::Worked => 0b11_0110_1001,
-            Bch::Long => 0xE_8FD4_F615_5365_4087,
-        }
+        self.generator().top + 1
+    }
+
+    // k1, the data bits of a word.
+    pub(crate) fn data_bits(self) -> usize
+        ensures data_bits_of_a_word { result ≡ data_bits_of self }
+    {
+        self.word_bits() - self.degree() as usize
     }
 }

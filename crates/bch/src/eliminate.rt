@@ -1,70 +1,99 @@
 // The polynomials that meet the equations of the syndromes, by elimination.
-ghost use Rattle.std.specs.Prelude.{◌≡◌, ℕ, ◌+◌, ◌-◌, ◌<◌, ◌≤◌, [], ◌++◌, length, take, drop, slice_index_or};
-ghost use Rattle.gf2.specs.Fields.{product, power};
+ghost use Rattle.std.specs.Prelude.{◌≡◌, ◌+◌, ◌<◌, ◌≤◌, bit_xor, fold, nat_eq, not, position, take};
+ghost use Rattle.std.specs.List.{zip};
+ghost use Rattle.arrayvec.specs.ArrayVec.{array_vec_len};
+ghost use Rattle.gf2.specs.Fields.{product};
 ghost use Rattle.bch.specs.Elimination.{against as sum_against, add_scaled, cleared, met_one, met_all, sequence, unit_rows};
-ghost use Rattle.bch.specs.Decoding.{all_vanish, inverse_or_0};
+ghost use Rattle.bch.specs.Decoding.{inverse_or_0};
 
+use arrayvec::ArrayVec;
 use gf2::field::Field;
+use std::array;
 
-// The sum of the coefficients times the members of the sequence from i on.
-fn against(field: Field, poly: &[u16; 6], s: &[u16; 11], i: usize) -> u16
-    requires inside { i < 6 }
-    ensures sum_of_products { result ≡ sum_against (product field) poly.now (sequence s.now) i }
-    ensures six_coefficients { length poly.now ≡ 6 }
-{
-    let mut sum = 0;
-    for k in (0..6).rev() {
-        sum = field.product(poly[k], s[i + k]) ^ sum;
-    }
-    sum
+// The coefficients of a polynomial, the lowest first.
+pub(crate) type Polynomial = [u16; 6];
+
+// A sequence of elements of a field: its members 0 to 10.
+#[derive(Clone, Copy)]
+pub(crate) struct Sequence {
+    pub field: Field,
+    pub members: [u16; 11],
 }
 
 // a p + q
-fn combined(field: Field, a: u16, p: &[u16; 6], q: &[u16; 6]) -> [u16; 6]
+fn combined(field: Field, a: u16, p: &Polynomial, q: &Polynomial) -> Polynomial
     ensures scaled_sum { result ≡ add_scaled (product field) a p.now q.now }
 {
-    let mut sum = *q;
-    for k in 0..6 {
-        sum[k] = field.product(a, p[k]) ^ sum[k];
-    }
-    sum
+    array::from_fn(|k| field.product(a, p[k]) ^ q[k])
 }
 
-// Takes out the polynomial at j, which fails equation i, and adds it to those behind it so that they meet it.
-fn clear(field: Field, s: &[u16; 11], i: usize, polys: &mut [[u16; 6]; 6], count: usize, j: usize)
-    requires inside { i < 6 }
-    requires many { count ≤ 6 }
-    requires there { j < count }
-    ensures one_fewer { take (count - 1) polys.new ≡ take j polys.old ++ cleared (product field) (inverse_or_0 field) (sequence s.now) i (slice_index_or polys.old j []) (take (count - 1 - j) (drop (j + 1) polys.old)) }
+// The sum of the products of the first elements, the second and so on.
+fn dot(field: Field, a: &[u16], b: &[u16]) -> u16
+    ensures sum_of_products { result ≡ fold (λ sum x. bit_xor sum (product field x.0 x.1)) 0 (zip a.now b.now) }
 {
-    let first = polys[j];
-    let scale = field.inverse(against(field, &first, s, i)).unwrap_or(0);
-    for k in j..count - 1 {
-        let next = polys[k + 1];
-        let a = field.product(against(field, &next, s, i), scale);
-        polys[k] = combined(field, a, &first, &next);
-    }
+    a.iter()
+        .zip(b)
+        .fold(0, |sum, (x, y)| sum ^ field.product(*x, *y))
 }
 
-// One equation: the first polynomial that fails it is taken out. Answers how many are left.
-fn meet(field: Field, s: &[u16; 11], i: usize, polys: &mut [[u16; 6]; 6], count: usize) -> usize
-    requires inside { i < 6 }
-    requires many { count ≤ 6 }
-    ensures no_more { result ≤ count }
-    ensures those_that_meet_it { take result polys.new ≡ met_one (product field) (inverse_or_0 field) (sequence s.now) i (take count polys.old) }
-{
-    for j in 0..count {
-        let poly = polys[j];
-        if against(field, &poly, s, i) != 0 {
-            clear(field, s, i, polys, count, j);
-            return count - 1;
+impl Sequence {
+    // The sum of the coefficients times the members from i on.
+    fn against(&self, poly: &Polynomial, i: usize) -> u16
+        requires inside { i < 6 }
+        ensures sum_of_products { result ≡ sum_against (product self.now.field) poly.now (sequence self.now.members) i }
+    {
+        dot(self.field, poly, &self.members[i..])
+    }
+
+    // Where the first polynomial is that fails equation i.
+    fn first_failing(&self, i: usize, polys: &[Polynomial]) -> Option<usize>
+        requires inside { i < 6 }
+        ensures first_that_is_not_0 { result ≡ position (λ p. not (nat_eq (sum_against (product self.now.field) p (sequence self.now.members) i) 0)) polys.now }
+    {
+        polys.iter().position(|poly| self.against(poly, i) != 0)
+    }
+
+    // Adds a polynomial that fails equation i to each of the others so that they meet it.
+    fn clear(&self, i: usize, first: &Polynomial, others: &mut [Polynomial])
+        requires inside { i < 6 }
+        ensures others_meet_it { others.new ≡ cleared (product self.now.field) (inverse_or_0 self.now.field) (sequence self.now.members) i first.now others.old }
+    {
+        let scale = self.field.inverse(self.against(first, i)).unwrap_or(0);
+        for next in others.iter_mut() {
+            let a = self.field.product(self.against(next, i), scale);
+            *next = combined(self.field, a, first, next);
         }
     }
-    count
+
+    // One equation: the first polynomial that fails it is taken out, and clears those behind it.
+    fn meet(&self, i: usize, polys: &mut ArrayVec<Polynomial, 6>)
+        requires inside { i < 6 }
+        ensures those_that_meet_it { polys.new.items ≡ met_one (product self.now.field) (inverse_or_0 self.now.field) (sequence self.now.members) i polys.old.items }
+        ensures one_fewer_at_most { array_vec_len polys.old ≤ array_vec_len polys.new + 1 }
+    {
+        if let Some(j) = self.first_failing(i, polys) {
+            let first = polys.remove(j);
+            self.clear(i, &first, &mut polys[j..]);
+        }
+    }
+
+    // What is left of 1, z, .., z^t after the equations 1 to t.
+    pub(crate) fn solve(&self, t: usize) -> Survivors
+        requires inside { t < 6 }
+        ensures meet_all_equations { result.polys.items ≡ met_all (product self.now.field) (inverse_or_0 self.now.field) (sequence self.now.members) t 1 (take (t + 1) unit_rows) }
+    {
+        let mut polys = ArrayVec::from(UNITS);
+        polys.truncate(t + 1);
+        // The equations have numbers, which no slice lists.
+        for i in 1..t + 1 {
+            self.meet(i, &mut polys);
+        }
+        Survivors { polys }
+    }
 }
 
 // 1, z and so on to z^5.
-const UNITS: [[u16; 6]; 6] = [
+const UNITS: [Polynomial; 6] = [
     [1, 0, 0, 0, 0, 0],
     [0, 1, 0, 0, 0, 0],
     [0, 0, 1, 0, 0, 0],
@@ -73,50 +102,9 @@ const UNITS: [[u16; 6]; 6] = [
     [0, 0, 0, 0, 0, 1],
 ];
 
-// The first `count` polynomials: those that the elimination leaves.
-#[derive(Clone, Copy)]
+// The polynomials that the elimination leaves. There is one more at the start than equations, so one at least is left.
+#[derive(Drop)]
 pub(crate) struct Survivors {
-    pub polys: [[u16; 6]; 6],
-    pub count: usize,
-    ghost inside: { count ≤ 6 },
-}
-
-// What is left of 1, z, .., z^t after the equations 1 to t of the sequence s.
-pub(crate) fn solve(field: Field, s: &[u16; 11], t: usize) -> Survivors
-    requires inside { t < 6 }
-    ensures meet_all_equations { take result.count result.polys ≡ met_all (product field) (inverse_or_0 field) (sequence s.now) t 1 (take (t + 1) unit_rows) }
-{
-    let mut polys = UNITS;
-    let mut count = t + 1;
-    for i in 0..t {
-        count = meet(field, s, i + 1, &mut polys, count);
-    }
-    Survivors { polys, count }
-}
-
-// The powers 0 to 10 of y.
-fn powers(field: Field, y: u16) -> [u16; 11]
-    ensures each_at_its_index { (k : ℕ) → k < 11 → sequence result k ≡ power field y k }
-{
-    let mut all = [1; 11];
-    for k in 1..11 {
-        all[k] = field.product(y, all[k - 1]);
-    }
-    all
-}
-
-impl Survivors {
-    // Whether all of them are 0 at y.
-    pub(crate) fn vanish_at(&self, field: Field, y: u16) -> bool
-        ensures all_are_0_there { result ≡ all_vanish (product field) (take self.now.count self.now.polys) y }
-    {
-        let powers = powers(field, y);
-        for k in 0..self.count {
-            let poly = self.polys[k];
-            if against(field, &poly, &powers, 0) != 0 {
-                return false;
-            }
-        }
-        true
-    }
+    pub polys: ArrayVec<Polynomial, 6>,
+    ghost some: { 1 ≤ array_vec_len polys },
 }

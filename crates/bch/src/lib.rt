@@ -6,7 +6,9 @@ mod eliminate;
 mod encode;
 pub mod laws;
 mod nearest;
+mod remainders;
 mod roots;
+pub mod settings;
 mod syndrome;
 
 pub use code::Bch;

@@ -3,10 +3,6 @@ ghost use Rattle.gf2.specs.Words.{bits};
 ghost use Rattle.bch.specs.Nearest.{Nearest};
 
 use crate::code::Bch;
-use crate::eliminate::solve;
-use crate::roots::flip_roots;
-use crate::syndrome::{is_codeword, syndromes};
-use gf2::bits::holds;
 
 impl Bch {
     // Corrects the first bits of the word to the codeword at most t bits away, and answers how many bits that flipped. None, and nothing
@@ -14,19 +10,17 @@ impl Bch {
     pub fn nearest(self, word: &mut [u8]) -> Option<usize>
         ensures the_codeword_at_most_t_bits_away_or_none { Nearest self (bits word.old) (bits word.new) result }
     {
-        let field = self.field();
-        let count = self.word_bits();
-        let t = self.errors();
-        if !holds(word, count) {
-            return None;
+        let rest = self.rest(word)?;
+        if rest == 0 {
+            return Some(0);
         }
-        let sums = syndromes(field, word, count, t);
-        let left = solve(field, &sums, t);
-        let flips = flip_roots(field, &left, word, count);
-        if flips <= t && is_codeword(field, word, count, t) {
+        // The word differs from a codeword by the rest alone, so the two have the same syndromes.
+        let left = self.syndromes(rest).solve(self.errors());
+        let flips = self.flip_roots(&left, word);
+        if flips <= self.errors() && self.rest(word) == Some(0) {
             return Some(flips);
         }
-        let _ = flip_roots(field, &left, word, count);
+        let _ = self.flip_roots(&left, word);
         None
     }
 }

@@ -1,51 +1,52 @@
-// The values of a word's polynomial at the powers of alpha.
-ghost use Rattle.std.specs.Prelude.{◌≡◌, ℕ, ◌+◌, ◌<◌, ◌≤◌, length, take, slice_index};
-ghost use Rattle.gf2.specs.Words.{bits};
+// The values of a polynomial at the powers of alpha.
+ghost use Rattle.std.specs.Prelude.{◌≡◌, ℕ, ◌<◌};
+ghost use Rattle.gf2.specs.Fields.{alpha, product, power};
+ghost use Rattle.gf2.specs.Words.{bits_of};
 ghost use Rattle.bch.specs.Code.{syndrome as syndrome_of};
-ghost use Rattle.bch.specs.Decoding.{syndromes_vanish};
+ghost use Rattle.bch.specs.Elimination.{sequence};
+ghost use Rattle.bch.specs.Settings.{field, check_bits};
 
-use gf2::bits::is_set;
+use crate::code::Bch;
+use crate::eliminate::Sequence;
 use gf2::field::Field;
+use std::array;
 
-// The polynomial of the first `count` bits at alpha^j.
-pub(crate) fn syndrome(field: Field, bytes: &[u8], count: usize, j: u64) -> u16
-    requires enough { count ≤ length (bits bytes.now) }
-    ensures value_at_that_power { result ≡ syndrome_of field (take count (bits bytes.now)) j }
+// alpha^k times a.
+pub(crate) fn times_power(field: Field, a: u16, k: usize) -> u16
+    ensures product_with_that_power { result ≡ product field (power field alpha k) a }
 {
-    let point = field.power(2, j);
-    let mut sum = 0;
-    for skip in 0..count {
-        sum = field.product(point, sum);
-        if is_set(bytes, skip) {
-            sum = sum ^ 1;
-        }
+    let mut moved = field.sum(a, 0);
+    for _ in 0..k {
+        moved = field.times_alpha(moved);
     }
-    sum
+    moved
 }
 
-// The syndromes 1 to 2t, each at its own index.
-pub(crate) fn syndromes(field: Field, bytes: &[u8], count: usize, t: usize) -> [u16; 11]
-    requires enough { count ≤ length (bits bytes.now) }
-    requires few { t < 6 }
-    ensures one_to_twice_t { (j : ℕ) → 1 ≤ j → j ≤ t + t → slice_index result j ≡ syndrome_of field (take count (bits bytes.now)) j }
-{
-    let mut all = [0; 11];
-    for j in 1..t + t + 1 {
-        all[j] = syndrome(field, bytes, count, j as u64);
+impl Bch {
+    // The polynomial of the check bits that a number is at alpha^j.
+    fn syndrome(self, number: u128, j: usize) -> u16
+        ensures value_at_that_power { result ≡ syndrome_of (field self) (bits_of (check_bits self) number) j }
+    {
+        let field = self.field();
+        let mut sum = 0;
+        // The place is a shift amount, so a fold over the range reads no plainer.
+        for place in (0..self.degree()).rev() {
+            sum = times_power(field, sum, j);
+            if (number >> place) & 1 == 1 {
+                sum ^= 1;
+            }
+        }
+        sum
     }
-    all
-}
 
-// Whether the syndromes 1 to 2t of the first `count` bits are 0.
-pub(crate) fn is_codeword(field: Field, bytes: &[u8], count: usize, t: usize) -> bool
-    requires enough { count ≤ length (bits bytes.now) }
-    requires few { t < 6 }
-    ensures all_syndromes_vanish { result ≡ syndromes_vanish field (take count (bits bytes.now)) 1 (t + t) }
-{
-    for j in 0..t + t {
-        if syndrome(field, bytes, count, j as u64 + 1) != 0 {
-            return false;
+    // The syndromes 0 to 10.
+    pub(crate) fn syndromes(self, number: u128) -> Sequence
+        ensures in_the_field { result.field ≡ field self }
+        ensures each_at_its_index { (j : ℕ) → j < 11 → sequence result.members j ≡ syndrome_of (field self) (bits_of (check_bits self) number) j }
+    {
+        Sequence {
+            field: self.field(),
+            members: array::from_fn(|j| self.syndrome(number, j)),
         }
     }
-    true
 }

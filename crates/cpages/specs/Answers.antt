@@ -1,7 +1,7 @@
 -- Answers as one number: 0, or that of the refusal.
 use Rattle.std.specs.Prelude.{◌≡◌, ℕ, List, Ok, Err, Result}
 use Rattle.gf2.specs.declared.field.Field.TheVariants.{Ten}
-use Rattle.bch_inner.specs.Codes.{long_checks}
+use Rattle.bch.specs.Codes.{long_checks}
 use Rattle.wordcode.specs.declared.refusal.Refusal.{Refusal}
 use Rattle.wordcode.specs.declared.page.PageReading.{PageReading}
 use Rattle.wordcode.specs.Refusals.{told}

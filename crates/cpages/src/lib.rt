@@ -4,11 +4,11 @@
 
 ghost use Rattle.std.specs.Prelude.{◌≡◌};
 ghost use Rattle.gf2.specs.declared.field.Field.TheVariants.{Ten};
-ghost use Rattle.bch_inner.specs.Codes.{long_checks};
+ghost use Rattle.bch.specs.Codes.{long_checks};
 ghost use Rattle.wordcode.specs.Page.{page_of, page_checked, PageMade};
 ghost use Rattle.cpages.specs.Answers.{answer_number, PageReadAs};
 
-use bch_inner::settings::Long;
+use bch::settings::Long;
 use wordcode::page::{encode_page, read_page};
 
 #[unsafe(no_mangle)]

@@ -9,8 +9,8 @@ use Rattle.gf2.specs.declared.field.Field.TheVariants.{Three, Eight}
 use Rattle.gf2.specs.Words.{add, weight, distance, bits, bits_of}
 use Rattle.gf2.specs.Product.{times_x, sum_of_shifts, times}
 use Rattle.bch.specs.Checks.{running}
-use Rattle.bch_inner.specs.Codes.{WorkedCodeword, worked_checks}
-use Rattle.bch_inner.specs.Theory.Laws.{worked_inner_code, worked_setting}
+use Rattle.bch.specs.Codes.{WorkedCodeword, worked_checks}
+use Rattle.bch.specs.Theory.Laws.{worked_inner_code, worked_setting}
 use Rattle.position.specs.Labels.{label_sum, no_powers_of_two}
 use Rattle.position.specs.Short.{data_labels, short_checks}
 use Rattle.pagecode.specs.Groups.{groups, sum_of_products}

@@ -3,7 +3,7 @@ use Rattle.std.specs.Prelude.{◌≡◌, ℕ, Bool, true, false, List, [], ◌�
 use Rattle.gf2.specs.declared.field.Field.TheVariants.{Three, Eight}
 use Rattle.gf2.specs.Words.{add, bits, bits_of}
 use Rattle.position.specs.Short.{short_checks}
-use Rattle.bch_inner.specs.Codes.{worked_checks}
+use Rattle.bch.specs.Codes.{worked_checks}
 use Rattle.wordcode.specs.declared.page.PageReading.TheVariants.{Blank}
 use Rattle.wordcode.specs.Codeword.{codeword}
 use Rattle.wordcode.specs.Reading.{gives, unreadable, Reads}

@@ -3,7 +3,7 @@ use crate::explain::explain;
 use crate::line::{Command, Request, Setting, digit};
 use crate::show::Hex;
 use anyhow::anyhow;
-use bch_inner::settings::{Long, Worked};
+use bch::settings::{Long, Worked};
 use gf2::field::Field;
 use inner::code::InnerCode;
 use pagecode::message::inner_data;

@@ -1,11 +1,10 @@
-use Rattle.std.proofs.Common.{◌≡◌, take, drop}
+use Rattle.std.proofs.Common.{◌≡◌, ◌*◌, take}
 use Rattle.gf2.specs.Words.{bits}
-use Rattle.bch.specs.Checks.{remainder}
-use Rattle.bch.specs.Settings.{generator_top, generator_tail, checks_number}
+use Rattle.bch.specs.Settings.{checks_number}
 use Rattle.bch.proofs.code.Bch.remainder.Given as goal
 
--- the bits that are left lead from the register to the remainder
+abbrev pub invariant-loop-byte : goal.invariant-loop-byte
+invariant-loop-byte l = l.register ≡ checks_number l.self (take (l.byte-index * 8) (bits l.bytes))
+
 abbrev pub invariant-loop-skip : goal.invariant-loop-skip
-invariant-loop-skip l =
-    remainder (generator_top l.self) (generator_tail l.self) l.register (drop l.skip (take l.count (bits l.bytes)))
-    ≡ checks_number l.self (take l.count (bits l.bytes))
+invariant-loop-skip l = l.register ≡ checks_number l.fn.self (take l.skip (bits l.bytes))

@@ -1,5 +1,0 @@
-pub mod Correcting
-pub mod Runs
-pub mod Rest
-pub mod Terms
-pub mod Bytes

@@ -1,6 +1,0 @@
-use Rattle.gf2.specs.Fields.{sum}
-use Rattle.bch_inner.proofs.Terms.{Changed}
-use Rattle.bch_inner.proofs.roots.terms_at_one.Given as goal
-
-abbrev pub invariant-loop-k : goal.invariant-loop-k
-invariant-loop-k l = Changed (λ k a. sum l.field a 0) l.poly l.k l.terms
