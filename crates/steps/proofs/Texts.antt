@@ -3,7 +3,7 @@ use Rattle.std.proofs.Common.{add-one, unwrap_or, arith, ◌≡◌, ◌+◌, ◌
 use Rattle.std.proofs.lemmas.Grind.{flat_map-append}
 use Rattle.std.specs.List.{flat_map}
 use Rattle.gf2.specs.Fields.{width}
-use Rattle.std.proofs.lemmas.List.{take_more, map-append, take_all, take-take, drop-take, drop-drop, append_assoc, append-nil, length-drop, length-take-le}
+use Rattle.std.proofs.lemmas.List.{take_more, map-append, take_all, take-take, drop-take, drop-drop, append_assoc, append-nil, length-take-le}
 use Rattle.std.proofs.lemmas.Bool.{le-leb}
 use Rattle.gf2.specs.declared.field.Field.{Field}
 use Rattle.gf2.specs.Words.{bits_of, number, number_behind}
@@ -27,30 +27,20 @@ shown_more w n p some h =
 pub shown_whole : (w n p : ℕ) → p ≤ 0 → digits (take (w - p) (bits_of w n)) ≡ digits (bits_of w n)
 shown_whole w n p h = ap digits (take_all (w - p) (bits_of w n) (omega (arith, bits_of_length w n)))
 
--- a run within a run
-within : (B : List Bool) (k n s w : ℕ) → s + w ≤ n → take w (drop s (take n (drop k B))) ≡ take w (drop (k + s) B)
-within B k n s w h =
-    let m : ℕ = n - s in
-    let whole : s + m ≡ n = omega arith in
-    let short : w ≤ m = omega arith in
-    let turned : s + k ≡ k + s = omega arith in
-    ap (λ (t : ℕ). take w (drop s (take t (drop k B)))) (sym whole)
-    ∙ ap (take w) (drop-take s m (drop k B))
-    ∙ take-take w m (drop s (drop k B)) short
-    ∙ ap (take w) (drop-drop s k B)
-
 number_there : (B : List Bool) (s k : ℕ) → 0 < k → k ≤ 16 → s + k ≤ length B → unwrap_or (number_behind B s k) 0 ≡ number (take k (drop s B))
 number_there B s k a b h = rw (le-leb 1 k (omega arith), le-leb k 16 b, le-leb (s + k) (length B) h)
 
--- the number of a run within a run
-pub number_within : (B shown : List Bool) (k n s w : ℕ)
-    → take n (drop k B) ≡ shown → k + n ≤ length B → s + w ≤ length shown → 0 < w → w ≤ 16 → unwrap_or (number_behind B (k + s) w) 0 ≡ number (take w (drop s shown))
-number_within B shown k n s w e room inside low high =
-    let size : length (drop k B) ≡ length B - k = length-drop k B in
-    let long : length shown ≡ n = sym (ap length e) ∙ length-take-le n (drop k B) (omega arith) in
-    let h : s + w ≤ n = omega arith in
-    number_there B (k + s) w low high (omega arith)
-    ∙ ap number (sym (within B k n s w h) ∙ ap (λ (t : List Bool). take w (drop s t)) e)
+-- the number of a run within the first n bits
+pub number_within : (B shown : List Bool) (n s w : ℕ)
+    → take n B ≡ shown → n ≤ length B → s + w ≤ length shown → 0 < w → w ≤ 16 → unwrap_or (number_behind B s w) 0 ≡ number (take w (drop s shown))
+number_within B shown n s w e room inside low high =
+    let long : length shown ≡ n = sym (ap length e) ∙ length-take-le n B room in
+    let m : ℕ = n - s in
+    let whole : s + m ≡ n = omega arith in
+    let short : w ≤ m = omega arith in
+    number_there B s w low high (omega arith)
+    ∙ ap number (sym (ap (λ (t : ℕ). take w (drop s (take t B))) (sym whole) ∙ ap (take w) (drop-take s m B) ∙ take-take w m (drop s B) short)
+    ∙ ap (λ (t : List Bool). take w (drop s t)) e)
 
 pub groups_length : (r n : ℕ) (w : List Bool) → length (groups r n w) ≡ n
 unfolding groups

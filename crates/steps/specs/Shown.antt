@@ -1,8 +1,8 @@
 -- What is shown, as the codes of its characters.
-use Rattle.std.specs.Prelude.{ℕ, ◌*◌, ◌/◌, Bool, false, cond, List, [], ◌∷◌, ◌++◌, Option, None, Some, map, length, take, drop, slice_index_or, codes}
+use Rattle.std.specs.Prelude.{◌≡◌, ◌+◌, ◌%◌, ◌^◌, ◌<◌, ◌≤◌, ℕ, ◌*◌, ◌/◌, Bool, false, cond, List, [], ◌∷◌, ◌++◌, Option, None, Some, map, length, take, drop, slice_index_or, codes}
 use Rattle.std.specs.List.{flat_map}
 use Rattle.gf2.specs.declared.field.Field.{Field}
-use Rattle.gf2.specs.Words.{bits_of, number}
+use Rattle.gf2.specs.Words.{bits, bits_of, number}
 use Rattle.gf2.specs.Fields.{width, product}
 use Rattle.pagecode.specs.InnerData.{each}
 use Rattle.pagecode.specs.Groups.{groups, f}
@@ -20,6 +20,11 @@ pub record Explained : Type 0 where
   pub message : List Bool
   pub v_k : List Bool
   pub v : Option (List Bool)
+
+-- whether the bytes hold a message of count + 1 bits and count bits of v_k, which are a run of pairs of groups
+abbrev pub HasSteps : Field → List ℕ → List ℕ → ℕ → Type 0
+HasSteps F message v_k count =
+    (count + 1 < 2 ^ 64) × (count + 1 ≤ length (bits message)) × (count ≤ length (bits v_k)) × (count % (2 * width F) ≡ 0)
 
 -- a name and bits
 abbrev pub line : List ℕ → List Bool → List ℕ

@@ -4,7 +4,7 @@ ghost use Rattle.std.specs.Fmt.{WritesOnOk};
 ghost use Rattle.gf2.specs.Words.{bits, bits_of};
 ghost use Rattle.gf2.specs.Fields.{width as width_of};
 ghost use Rattle.pagecode.specs.Groups.{f};
-ghost use Rattle.steps.specs.Shown.{Explained, group_at, product_line, explained_text, parts_text, groups_text, products_text, sum_text};
+ghost use Rattle.steps.specs.Shown.{Explained, HasSteps, group_at, product_line, explained_text, parts_text, groups_text, products_text, sum_text};
 
 use crate::show::{Bits, Element, character};
 use gf2::field::Field;
@@ -27,20 +27,20 @@ impl<'a> Model for Steps<'a> {
 
     ghost view = { λ s. record { field = s.field; message = s.message; v_k = s.v_k; v = s.v } };
 
-    ghost invariant = { λ s. (length s.v_k % (2 * width_of s.field) ≡ 0) × (s.sum ≡ f s.field s.v_k) };
+    ghost invariant = { λ s. (length s.v_k < 2 ^ 64) × (length s.v_k % (2 * width_of s.field) ≡ 0) × (s.sum ≡ f s.field s.v_k) };
 }
 
 impl<'a> Steps<'a> {
     // The steps for a message of `count` + 1 bits whose v_k is the first `count` bits of `v_k`; none where there are fewer or they are no run of pairs of groups.
     pub fn of(field: Field, message: &'a [u8], v_k: &'a [u8], count: usize) -> Option<Self>
-        ensures where_there_are_bits_in_pairs_of_groups { IsSome result ↔ ((count + 1 < 2 ^ 64) × (count + 1 ≤ length (bits message.now)) × (count ≤ length (bits v_k.now)) × (count % (2 * width_of field) ≡ 0)) }
-        ensures of_that_message { IfSome result (λ e. e ≡ record { field = field; message = take (count + 1) (bits message.now); v_k = take count (bits v_k.now); v = None }) }
+        ensures where_it_has_steps { IsSome result ↔ HasSteps field message.now v_k.now count }
+        ensures steps_of_that_message { IfSome result (λ e. e ≡ record { field = field; message = take (count + 1) (bits message.now); v_k = take count (bits v_k.now); v = None }) }
     {
         let sum = nonlinear_bits(v_k, count, field.width()).ok()?;
         Some(Steps {
             field,
-            message: Bits::behind(message, 0, count.checked_add(1)?)?,
-            v_k: Bits::behind(v_k, 0, count)?,
+            message: Bits::of(message, count.checked_add(1)?)?,
+            v_k: Bits::of(v_k, count)?,
             v: None,
             sum,
         })
@@ -54,11 +54,11 @@ impl<'a> Steps<'a> {
         count: usize,
         inner_bits: usize,
     ) -> Option<Self>
-        ensures where_there_are_bits_in_pairs_of_groups { IsSome result ↔ ((count + 1 < 2 ^ 64) × (count + 1 ≤ length (bits message.now)) × (count ≤ length (bits v.now)) × (inner_bits ≤ length (bits v.now)) × (count % (2 * width_of field) ≡ 0)) }
-        ensures of_that_message { IfSome result (λ e. e ≡ record { field = field; message = take (count + 1) (bits message.now); v_k = take count (bits v.now); v = Some (take inner_bits (bits v.now)) }) }
+        ensures where_it_has_steps_and_v_its_bits { IsSome result ↔ (HasSteps field message.now v.now count × inner_bits ≤ length (bits v.now)) }
+        ensures steps_of_that_message { IfSome result (λ e. e ≡ record { field = field; message = take (count + 1) (bits message.now); v_k = take count (bits v.now); v = Some (take inner_bits (bits v.now)) }) }
     {
         let steps = Steps::of(field, message, v, count)?;
-        let v = Bits::behind(v, 0, inner_bits)?;
+        let v = Bits::of(v, inner_bits)?;
         Some(Steps {
             v: Some(v),
             ..steps
@@ -71,7 +71,6 @@ impl<'a> Steps<'a> {
         ensures the_number_of_its_bits { result ≡ group_at self.now index }
     {
         let width = self.field.width();
-        let _count = self.v_k.len();
         self.v_k.number(index * width as usize, width)
     }
 
@@ -102,11 +101,12 @@ impl<'a> Steps<'a> {
         requires within { (2 * pair + 2) * width_of self.now.field ≤ length self.now.v_k }
         ensures that_product { WritesOnOk W.write_str_gives f.old result (product_line self.now.field (group_at self.now (2 * pair)) (group_at self.now (2 * pair + 1))) f.new }
     {
-        let _count = self.v_k.len();
-        let (a, b) = (self.group(2 * pair), self.group(2 * pair + 1));
-        let left = Element::of(self.field, a);
-        let right = Element::of(self.field, b);
-        let product = Element::of(self.field, self.field.product(a, b));
+        let field = self.field;
+        let a = self.group(2 * pair);
+        let b = self.group(2 * pair + 1);
+        let left = Element::of(field, a);
+        let right = Element::of(field, b);
+        let product = Element::of(field, field.product(a, b));
         writeln!(f, "{left} * {right} = {product}")
     }
 

@@ -2,4 +2,4 @@
 #![tactic(auto)]
 
 pub mod explain;
-pub mod show;
+mod show;

@@ -15,31 +15,29 @@ pub(crate) fn character(bit: bool) -> &'static str
     if bit { "1" } else { "0" }
 }
 
-// A run of bits of bytes.
+// The first bits of bytes.
 #[derive(Drop)]
-pub struct Bits<'a> {
+pub(crate) struct Bits<'a> {
     bytes: &'a [u8],
-    skip: usize,
     count: usize,
 }
 
 impl<'a> Model for Bits<'a> {
     ghost Value = { List Bool };
 
-    ghost view = { λ s. take s.count (drop s.skip (bits s.bytes.now)) };
+    ghost view = { λ s. take s.count (bits s.bytes.now) };
 
-    ghost invariant = { λ s. s.skip + s.count < 2 ^ 64 × s.skip + s.count ≤ length (bits s.bytes.now) };
+    ghost invariant = { λ s. s.count ≤ length (bits s.bytes.now) };
 }
 
 impl<'a> Bits<'a> {
-    // The `count` bits behind the first `skip`; none where the bytes end before.
-    pub fn behind(bytes: &'a [u8], skip: usize, count: usize) -> Option<Self>
-        ensures where_the_bytes_hold_them { IsSome result ↔ (skip + count < 2 ^ 64 × skip + count ≤ length (bits bytes.now)) }
-        ensures those_bits { IfSome result (λ shown. shown ≡ take count (drop skip (bits bytes.now))) }
+    // The first `count` bits; none where the bytes hold fewer.
+    pub(crate) fn of(bytes: &'a [u8], count: usize) -> Option<Self>
+        ensures where_the_bytes_hold_them { IsSome result ↔ (count ≤ length (bits bytes.now)) }
+        ensures those_bits { IfSome result (λ shown. shown ≡ take count (bits bytes.now)) }
     {
-        let end = skip.checked_add(count)?;
-        if holds(bytes, end) {
-            Some(Bits { bytes, skip, count })
+        if holds(bytes, count) {
+            Some(Bits { bytes, count })
         } else {
             None
         }
@@ -54,7 +52,7 @@ impl<'a> Bits<'a> {
     pub(crate) fn first(&self) -> bool
         ensures the_first_or_false { result ≡ slice_index_or self.now 0 false }
     {
-        self.count > 0 && is_set(self.bytes, self.skip)
+        self.count > 0 && is_set(self.bytes, 0)
     }
 
     // The number that `width` bits make, behind the first `skip`.
@@ -63,7 +61,7 @@ impl<'a> Bits<'a> {
         requires narrow { 0 < width × width ≤ 16 }
         ensures number_of_those { result ≡ number_of (take width (drop skip self.now)) }
     {
-        number(self.bytes, self.skip + skip, width).unwrap_or(0)
+        number(self.bytes, skip, width).unwrap_or(0)
     }
 }
 
@@ -72,7 +70,7 @@ impl fmt::Display for Bits<'_> {
 
     fn fmt<W: fmt::Write>(&self, f: &mut fmt::Formatter<W>) -> fmt::Result {
         for done in 0..self.count {
-            f.write_str(character(is_set(self.bytes, self.skip + done)))?;
+            f.write_str(character(is_set(self.bytes, done)))?;
         }
         Ok(())
     }
@@ -80,7 +78,7 @@ impl fmt::Display for Bits<'_> {
 
 // An element of a field.
 #[derive(Drop)]
-pub struct Element {
+pub(crate) struct Element {
     field: Field,
     value: u16,
 }
@@ -93,7 +91,7 @@ impl Model for Element {
 
 impl Element {
     // The element that a number stands for.
-    pub fn of(field: Field, value: u16) -> Self
+    pub(crate) fn of(field: Field, value: u16) -> Self
         ensures its_bits { result ≡ bits_of (width_of field) value }
     {
         Element { field, value }

@@ -42,7 +42,7 @@ fn print_call<W: Write, F: FnOnce(&[u8], &mut [u8]) -> Outcome>(
                 let suffix = if over { " over" } else { "" };
                 write!(out, " {distance}{suffix}")?;
             }
-            writeln!(out, "")?;
+            writeln!(out)?;
             Ok(())
         }
         Err(refusal) => print_refusal(out, request, refusal),

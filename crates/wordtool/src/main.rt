@@ -26,12 +26,15 @@ fn answer_line<W: Write>(
     }
 }
 
-fn run(rt: &HostRuntime) -> anyhow::Result<()> {
-    let heap = rt.alloc();
-    let mut out = BufWriter::new(heap, rt.stdout())?;
+fn answer_all<R: Read + Drop, W: Write + Drop>(
+    heap: Global,
+    input: R,
+    output: W,
+) -> anyhow::Result<()> {
+    let mut out = BufWriter::new(heap, output)?;
     let mut line = Line::new();
     let mut number = 1u64;
-    for byte in BufReader::new(heap, rt.stdin())?.bytes() {
+    for byte in BufReader::new(heap, input)?.bytes() {
         match byte? {
             b'\n' => {
                 answer_line(&mut out, heap, &line, number)?;
@@ -50,5 +53,5 @@ fn run(rt: &HostRuntime) -> anyhow::Result<()> {
 }
 
 fn main(rt: HostRuntime) -> anyhow::Result<()> {
-    run(&rt)
+    answer_all(rt.alloc(), rt.stdin(), rt.stdout())
 }

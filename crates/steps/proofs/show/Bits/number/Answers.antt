@@ -10,5 +10,5 @@ returns c =
     record {
       number_of_those =
           c.unwrap_or.ensures ∙ ap (λ (o : Option ℕ). unwrap_or o 0) c.number.ensures.number_of_those_bits
-          ∙ number_within (bits b.bytes.now) c.args.self.now b.skip b.count c.args.skip c.args.width c.self.view_is c.self.invariant.1 c.requires.has_them c.requires.narrow.0 c.requires.narrow.1;
+          ∙ number_within (bits b.bytes.now) c.args.self.now b.count c.args.skip c.args.width c.self.view_is c.self.invariant c.requires.has_them c.requires.narrow.0 c.requires.narrow.1;
     }
