@@ -1,4 +1,4 @@
--- What is shown, as the codes of its characters.
+-- What is shown, as the codes of its characters: 10 is a newline, 32 a space, 48 and 49 the digits 0 and 1.
 use Rattle.std.specs.Prelude.{◌≡◌, ◌+◌, ◌%◌, ◌^◌, ◌<◌, ◌≤◌, ℕ, ◌*◌, ◌/◌, Bool, false, cond, List, [], ◌∷◌, ◌++◌, Option, None, Some, map, length, take, drop, slice_index_or, codes}
 use Rattle.std.specs.List.{flat_map}
 use Rattle.gf2.specs.declared.field.Field.{Field}

@@ -29,15 +29,10 @@ fn print_call<W: Write, F: FnOnce(&[u8], &mut [u8]) -> Outcome>(
 {
     let bytes = hex::decode(heap, request.digits)?;
     let mut made = vec![in heap; 0u8; size]?;
-    let Request {
-        command,
-        setting,
-        ..
-    } = request;
     match call(&bytes, &mut made) {
         Ok(reading) => {
             let digits = hex::encode_upper(heap, &made)?;
-            write!(out, "{command} {setting} ok {digits}")?;
+            write!(out, "{request} ok {digits}")?;
             if let Some(Reading { distance, over }) = reading {
                 let suffix = if over { " over" } else { "" };
                 write!(out, " {distance}{suffix}")?;
@@ -54,13 +49,8 @@ fn print_refusal<W: Write>(
     request: &Request<'_>,
     refusal: Refusal,
 ) -> anyhow::Result<()> {
-    let Request {
-        command,
-        setting,
-        ..
-    } = request;
     let number = refusal.number();
-    writeln!(out, "{command} {setting} no {number}")?;
+    writeln!(out, "{request} no {number}")?;
     Ok(())
 }
 

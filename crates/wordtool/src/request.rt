@@ -25,6 +25,13 @@ pub struct Request<'a> {
     pub digits: &'a [u8],
 }
 
+// Its words, without the digits.
+impl fmt::Display for Request<'_> {
+    fn fmt<W: fmt::Write>(&self, f: &mut fmt::Formatter<W>) -> fmt::Result {
+        write!(f, "{} {}", self.command, self.setting)
+    }
+}
+
 // A word that names no command or no setting.
 #[derive(Clone, Copy, Debug)]
 pub struct UnknownName;
