@@ -36,47 +36,54 @@ fn dot(field: Field, a: &[u16], b: &[u16]) -> u16
         .fold(0, |sum, (x, y)| sum ^ field.product(*x, *y))
 }
 
-impl Sequence {
+// The equation with that number: a polynomial meets it if its coefficients against the members from i on give 0.
+#[derive(Clone, Copy)]
+struct Equation {
+    sequence: Sequence,
+    i: usize,
+    ghost inside: { i < 6 },
+}
+
+impl Equation {
     // The sum of the coefficients times the members from i on.
-    fn against(&self, poly: &Polynomial, i: usize) -> u16
-        requires inside { i < 6 }
-        ensures sum_of_products { result ≡ sum_against (product self.now.field) poly.now (sequence self.now.members) i }
+    fn against(&self, poly: &Polynomial) -> u16
+        ensures sum_of_products { result ≡ sum_against (product self.now.sequence.field) poly.now (sequence self.now.sequence.members) self.now.i }
     {
-        dot(self.field, poly, &self.members[i..])
+        dot(self.sequence.field, poly, &self.sequence.members[self.i..])
     }
 
-    // Where the first polynomial is that fails equation i.
-    fn first_failing(&self, i: usize, polys: &[Polynomial]) -> Option<usize>
-        requires inside { i < 6 }
-        ensures first_that_is_not_0 { result ≡ position (λ p. not (nat_eq (sum_against (product self.now.field) p (sequence self.now.members) i) 0)) polys.now }
+    // Where the first polynomial is that fails it.
+    fn first_failing(&self, polys: &[Polynomial]) -> Option<usize>
+        ensures first_that_is_not_0 { result ≡ position (λ p. not (nat_eq (sum_against (product self.now.sequence.field) p (sequence self.now.sequence.members) self.now.i) 0)) polys.now }
     {
-        polys.iter().position(|poly| self.against(poly, i) != 0)
+        polys.iter().position(|poly| self.against(poly) != 0)
     }
 
-    // Adds a polynomial that fails equation i to each of the others so that they meet it.
-    fn clear(&self, i: usize, first: &Polynomial, others: &mut [Polynomial])
-        requires inside { i < 6 }
-        ensures others_meet_it { others.new ≡ cleared (product self.now.field) (inverse_or_0 self.now.field) (sequence self.now.members) i first.now others.old }
+    // Adds a polynomial that fails it to each of the others so that they meet it.
+    fn clear(&self, first: &Polynomial, others: &mut [Polynomial])
+        ensures others_meet_it { others.new ≡ cleared (product self.now.sequence.field) (inverse_or_0 self.now.sequence.field) (sequence self.now.sequence.members) self.now.i first.now others.old }
     {
-        let scale = self.field.inverse(self.against(first, i)).unwrap_or(0);
+        let field = self.sequence.field;
+        let scale = field.inverse(self.against(first)).unwrap_or(0);
         for next in others.iter_mut() {
-            let a = self.field.product(self.against(next, i), scale);
-            *next = combined(self.field, a, first, next);
+            let a = field.product(self.against(next), scale);
+            *next = combined(field, a, first, next);
         }
     }
 
-    // One equation: the first polynomial that fails it is taken out, and clears those behind it.
-    fn meet(&self, i: usize, polys: &mut ArrayVec<Polynomial, 6>)
-        requires inside { i < 6 }
-        ensures those_that_meet_it { polys.new.items ≡ met_one (product self.now.field) (inverse_or_0 self.now.field) (sequence self.now.members) i polys.old.items }
+    // The first polynomial that fails it is taken out, and clears those behind it.
+    fn meet(&self, polys: &mut ArrayVec<Polynomial, 6>)
+        ensures those_that_meet_it { polys.new.items ≡ met_one (product self.now.sequence.field) (inverse_or_0 self.now.sequence.field) (sequence self.now.sequence.members) self.now.i polys.old.items }
         ensures one_fewer_at_most { array_vec_len polys.old ≤ array_vec_len polys.new + 1 }
     {
-        if let Some(j) = self.first_failing(i, polys) {
+        if let Some(j) = self.first_failing(polys) {
             let first = polys.remove(j);
-            self.clear(i, &first, &mut polys[j..]);
+            self.clear(&first, &mut polys[j..]);
         }
     }
+}
 
+impl Sequence {
     // What is left of 1, z, .., z^t after the equations 1 to t.
     pub(crate) fn solve(&self, t: usize) -> Survivors
         requires inside { t < 6 }
@@ -86,7 +93,8 @@ impl Sequence {
         polys.truncate(t + 1);
         // The equations have numbers, which no slice lists.
         for i in 1..t + 1 {
-            self.meet(i, &mut polys);
+            let equation = Equation { sequence: *self, i };
+            equation.meet(&mut polys);
         }
         Survivors { polys }
     }

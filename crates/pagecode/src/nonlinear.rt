@@ -71,6 +71,7 @@ pub fn nonlinear_bits(bytes: &[u8], count: usize, width: u32) -> Result<u16, Mis
         return Err(Misfit::Length);
     }
     let mut sum = 0;
+    // A pair of groups lies at the place of a bit, which no slice lists.
     for pair in 0..count / two_groups {
         let product = pair_product(field, bytes, pair * two_groups).ok_or(Misfit::Length)?;
         sum = field.sum(sum, product);

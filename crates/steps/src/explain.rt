@@ -91,6 +91,7 @@ impl<'a> Steps<'a> {
         ensures every_group { WritesOnOk W.write_str_gives f.old result (groups_text self.now) f.new }
     {
         f.write_str("groups")?;
+        // A group lies at the place of a bit, which no slice lists; so does a pair below.
         for index in 0..self.v_k.len() / self.field.width() as usize {
             write!(f, " {}", Element::of(self.field, self.group(index)))?;
         }

@@ -69,6 +69,7 @@ impl fmt::Display for Bits<'_> {
     ghost output = { λ shown. Some (digits shown) };
 
     fn fmt<W: fmt::Write>(&self, f: &mut fmt::Formatter<W>) -> fmt::Result {
+        // Bits have places, which no slice lists.
         for done in 0..self.count {
             f.write_str(character(is_set(self.bytes, done)))?;
         }

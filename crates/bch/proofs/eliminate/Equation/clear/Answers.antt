@@ -3,15 +3,15 @@ use Rattle.gf2.specs.Fields.{product}
 use Rattle.bch.specs.Elimination.{against, add_scaled, sequence}
 use Rattle.bch.specs.Decoding.{inverse_or_0}
 use Rattle.bch.proofs.Rows.{cleared_turn, cleared_end}
-use Rattle.bch.proofs.eliminate.Sequence.clear.Goals as goal
+use Rattle.bch.proofs.eliminate.Equation.clear.Goals as goal
 
 pub loop-next-preserved : goal.loop-next-preserved
 loop-next-preserved c =
-    let F = c.args.self.now.field in
+    let F = c.args.self.now.sequence.field in
     let m = product F in
     let inv = inverse_or_0 F in
-    let s = sequence c.args.self.now.members in
-    let i = c.args.i in
+    let s = sequence c.args.self.now.sequence.members in
+    let i = c.args.self.now.i in
     let first = c.args.first.now in
     let k = c.loop-next.next-index in
     let next = get_or c.loop-next.others k [] in
@@ -24,9 +24,9 @@ loop-next-preserved c =
 
 pub returns : goal.returns
 returns c =
-    let F = c.args.self.now.field in
+    let F = c.args.self.now.sequence.field in
     record {
       others_meet_it =
-          cleared_end (product F) (inverse_or_0 F) (sequence c.args.self.now.members) c.args.i c.args.first.now c.loop-next.others _ c.loop-next.next-index
+          cleared_end (product F) (inverse_or_0 F) (sequence c.args.self.now.sequence.members) c.args.self.now.i c.args.first.now c.loop-next.others _ c.loop-next.next-index
           (omega arith) c.loop-next.invariant;
     }
