@@ -4,20 +4,33 @@ ghost use Rattle.position.specs.Short.{ShortCodeword, short_checks};
 ghost use Rattle.position.specs.Theory.ShortLaws.{short_inner_code, short_setting};
 
 use crate::labels::{data_sum, place_of, word_sum};
-use gf2::bits::{holds, is_set, put, put_number};
-use inner::code::{Exactly, InnerCode};
+use gf2::bits::{NoRoom, is_set, put, put_number};
+use gf2::field::Field;
+use inner::code::InnerCode;
 
 // 544 data bits and 10 check bits; one wrong bit is corrected.
 pub struct Short;
 
-impl InnerCode<544, 10, 1, 8> for Short {
-    const DATA: Exactly<544> = Exactly { value: 544 };
+impl InnerCode for Short {
+    const DATA: usize = 544;
 
-    const CHECKS: Exactly<10> = Exactly { value: 10 };
+    const CHECKS: usize = 10;
 
-    const ERRORS: Exactly<1> = Exactly { value: 1 };
+    const ERRORS: usize = 1;
 
-    const TAIL: Exactly<8> = Exactly { value: 8 };
+    const TAIL: usize = 8;
+
+    const FIELD: Field = Field::Eight;
+
+    ghost DATA = { 544 };
+
+    ghost CHECKS = { 10 };
+
+    ghost ERRORS = { 1 };
+
+    ghost TAIL = { 8 };
+
+    ghost FIELD = { Eight };
 
     ghost codeword = { ShortCodeword };
 
@@ -25,17 +38,11 @@ impl InnerCode<544, 10, 1, 8> for Short {
 
     ghost laws = { short_inner_code };
 
-    ghost field = { Eight };
-
     ghost setting = { short_setting };
 
-    fn complete(word: &mut [u8]) -> bool {
-        if !holds(word, 554) {
-            return false;
-        }
-        let sum = data_sum(word);
-        let _ = put_number(word, 544, 10, u128::from(sum));
-        true
+    // The check bits make the sum of the labels.
+    fn complete(word: &mut [u8]) -> Result<(), NoRoom> {
+        put_number(word, 544, 10, u128::from(data_sum(word)))
     }
 
     fn nearest(word: &mut [u8]) -> Option<usize> {

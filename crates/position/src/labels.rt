@@ -2,25 +2,19 @@
 ghost use Rattle.std.specs.Prelude.{◌≡◌, length, take, if◌then◌else◌, Some, None, nat_le};
 ghost use Rattle.gf2.specs.Words.{bits};
 ghost use Rattle.position.specs.Labels.{label_sum, PlaceOf};
-ghost use Rattle.position.specs.Short.{data_labels, short_labels};
+ghost use Rattle.position.specs.Short.{short_labels, added_in_turn};
 
 use gf2::bits::{is_set, number};
 
 // The labels of the set data bits, added.
 pub(crate) fn data_sum(word: &[u8]) -> u16
-    ensures sum_over_the_data_bits { result ≡ label_sum data_labels (bits word.now) }
+    ensures sum_over_the_data_bits { result ≡ added_in_turn (bits word.now) }
 {
-    let mut sum = 0;
-    let mut place = 0;
-    for label in 3u16..555 {
-        if !label.is_power_of_two() {
-            if is_set(word, place) {
-                sum = sum ^ label;
-            }
-            place += 1;
-        }
-    }
-    sum
+    (3u16..555)
+        .filter(|label| !label.is_power_of_two())
+        .enumerate()
+        .filter(|(place, _)| is_set(word, *place))
+        .fold(0, |sum, (_, label)| sum ^ label)
 }
 
 // The labels of all set bits, added; none where there are too few bits. The check bits add to the number that they make.

@@ -7,7 +7,7 @@ fn one_wrong_bit_is_corrected_and_two_far_ones_left(rt: HostRuntime) {
     let mut word = [0; 70];
     word[0] = 0b1100_0000;
     word[69] = 0b0011_1111;
-    assert!(rt; Short::complete(&mut word));
+    assert!(rt; Short::complete(&mut word).is_ok());
     // The labels 3 and 5 add to 6.
     assert!(rt; word[68] == 0b0000_0001 && word[69] == 0b1011_1111);
     let right = word;

@@ -7,17 +7,7 @@ use Rattle.position.specs.Labels.{label_sum}
 use Rattle.position.specs.Short.{data_labels, short_labels, ShortCodeword}
 use Rattle.position.proofs.Correcting.{right_already, one_wrong, none_near}
 use Rattle.position.proofs.Words.{short_labels_length, if_some, if_none}
-use Rattle.position.proofs.code.ShortInnerCode5441018.nearest.Goals as goal
-
--- too few bits
-pub returns-in_err-sum : goal.returns-in_err-sum
-returns-in_err-sum c =
-    let w = bits c.args.word.now in
-    let few = leb-false 554 (length w) (if_none (leb 554 (length w)) (label_sum short_labels (take 554 w)) c.in_err-sum.ensures.sum_over_the_word) in
-    record {
-      the_codeword_at_most_t_bits_away_or_none =
-          subst (λ (r : Option ℕ). Nearest 554 1 ShortCodeword w w r) (sym c.from_residual.ensures) (record { same = refl; none = λ enough. absurd (omega arith) });
-    }
+use Rattle.position.proofs.code.ShortInnerCode.nearest.Goals as goal
 
 pub returns-then-sum-eq0 : goal.returns-then-sum-eq0
 returns-then-sum-eq0 c =
