@@ -259,7 +259,7 @@ module _ {k1 r1 t : ℕ} {F : Field} {Codeword : List Bool → Type 0} {checks :
 
 pub flip_law : (k1 r1 t r2 : ℕ) (F : Field) (Codeword : List Bool → Type 0) (checks : List Bool → List Bool)
     → IsInnerCode k1 r1 t Codeword checks → Setting k1 r1 t r2 F → FlipLaw k1 r1 F checks
-flip_law k1 r1 t r2 F Codeword checks I S =
+flip_law k1 r1 t n F Codeword checks I S =
     let W = at_width S in
     record {
       the_pattern_is_as_long_as_a_word =

@@ -14,3 +14,5 @@ pub mod WordRead
 pub mod Changes
 pub mod Cuts
 pub mod Flips
+pub mod Counting
+pub mod Readings

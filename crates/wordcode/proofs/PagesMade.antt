@@ -1,5 +1,5 @@
 -- Pages made: the codeword of the data bytes' message, then the mark.
-use Rattle.std.proofs.Common.{◌≡◌, ℕ, ◌+◌, ◌-◌, ◌*◌, ◌≤◌, Bool, true, false, List, [], ◌++◌, length, take, drop, replicate, Ok, Result, sym, ap, ◌∙◌, subst, ap₂, arith, length-append}
+use Rattle.std.proofs.Common.{◌≡◌, ℕ, ◌+◌, ◌-◌, ◌*◌, ◌≤◌, Bool, true, false, List, ◌++◌, length, take, drop, replicate, Ok, Result, sym, ap, ◌∙◌, subst, ap₂, arith, length-append}
 use lib.ListN.{length-replicate}
 use lib.Seq.{take-append-add}
 use Rattle.std.proofs.lemmas.List.{take-replicate, drop-replicate, length-take-le}
@@ -28,14 +28,11 @@ message_source k1 N b ds buffer size fit is e =
     ∙ ap (λ (z : List ℕ). ds ++ z) (take-replicate (bytes_for (k1 + 1) - length ds) (N - length ds) 0 (omega arith))
 
 -- a page that was cleared, in the bytes for its word and those behind them
-pub cleared_front : (b n : ℕ) (page cleared : List ℕ) → b ≡ n → n ≤ length page → cleared ≡ [] ++ replicate (length page - 0) 0 → length (take b cleared) ≡ n
-cleared_front b n page cleared is fit e =
-    length-take-le b cleared (omega (arith, ap length e, length-replicate {A = ℕ} (length page - 0) 0)) ∙ is
+pub cleared_front : (b n : ℕ) (page cleared : List ℕ) → b ≡ n → n ≤ length page → cleared ≡ replicate (length page) 0 → length (take b cleared) ≡ n
+cleared_front b n page cleared is fit e = length-take-le b cleared (omega (arith, ap length e, length-replicate {A = ℕ} (length page) 0)) ∙ is
 
-pub cleared_behind : (b n : ℕ) (page cleared : List ℕ) → b ≡ n → cleared ≡ [] ++ replicate (length page - 0) 0 → drop b cleared ≡ replicate (length page - n) 0
-cleared_behind b n page cleared is e =
-    ap₂ (λ (i : ℕ) (l : List ℕ). drop i l) is e ∙ drop-replicate {X = ℕ} n (length page - 0) 0
-    ∙ ap (λ (i : ℕ). replicate i 0) (let a : length page - 0 - n ≡ length page - n = omega arith in a)
+pub cleared_behind : (b n : ℕ) (page cleared : List ℕ) → b ≡ n → cleared ≡ replicate (length page) 0 → drop b cleared ≡ replicate (length page - n) 0
+cleared_behind b n page cleared is e = ap₂ (λ (i : ℕ) (l : List ℕ). drop i l) is e ∙ drop-replicate {X = ℕ} n (length page) 0
 
 -- data bytes with a zero byte or none behind them are the message, in whole bytes
 module _ (k1 : ℕ) (ds source : List ℕ) (size : length ds ≡ data_bytes k1) (front : source ≡ ds ++ replicate (bytes_for (k1 + 1) - length ds) 0) where

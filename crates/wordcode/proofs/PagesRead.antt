@@ -1,5 +1,5 @@
 -- Pages read: the word in front of the mark, and the data bytes of its message.
-use Rattle.std.proofs.Common.{◌≡◌, ℕ, ◌+◌, ◌-◌, ◌*◌, ◌/◌, ◌≤◌, Bool, true, false, List, ◌++◌, length, take, drop, replicate, Ok, Err, Result, sym, refl, ap, ◌∙◌, subst, arith, length-append, take-append-drop, take_at, drop_at}
+use Rattle.std.proofs.Common.{◌≡◌, ℕ, ◌+◌, ◌-◌, ◌*◌, ◌≤◌, Bool, true, false, cond, eqb, List, ◌++◌, length, take, drop, replicate, Ok, Err, Result, sym, refl, ap, ◌∙◌, subst, arith, length-append, take-append-drop, take_at, drop_at}
 use lib.ListN.{length-replicate}
 use lib.Seq.{take-append-le}
 use Rattle.std.proofs.lemmas.List.{length-take-le, append-nil}
@@ -9,7 +9,7 @@ use Rattle.gf2.specs.Words.{weight, bits}
 use Rattle.gf2.specs.Fields.{width}
 use Rattle.gf2.proofs.Sums.{weight_zeros}
 use Rattle.gf2.proofs.Places.{bits_length, bits_take}
-use Rattle.inner.specs.Pages.{word_bits, bytes_for}
+use Rattle.inner.specs.Pages.{word_bits, bytes_for, page_bytes}
 use Rattle.inner.specs.Code.{Setting}
 use Rattle.wordcode.specs.declared.refusal.Refusal.{Refusal}
 use Rattle.wordcode.specs.declared.word.Reading.{Reading as ReadingOf}
@@ -21,7 +21,7 @@ use Rattle.wordcode.specs.Reading.{Answer, gives, unreadable, Reads}
 use Rattle.wordcode.specs.Encoding.{Written, told_of, message_in, ReadByTheRules}
 use Rattle.wordcode.specs.Page.{data_bytes, page_checked, marked, WordTold, PageByItsMark, PageRead}
 use Rattle.wordcode.proofs.Padding.{padded_take}
-use Rattle.wordcode.proofs.Passed.{passes, Sized, sized, by_values, by_constants}
+use Rattle.wordcode.proofs.Passed.{lengths_pass, passes, Sized, sizes}
 
 -- the data bytes at the front of a message's buffer
 data_taken : (b : ℕ) (before after behind out : List ℕ) → b ≡ length before → b ≤ length after
@@ -103,62 +103,48 @@ module _ {k1 r1 t r2 : ℕ} {F : Field} (checks : List Bool → List Bool) (S : 
         q.3,
       )
 
--- a buffer as it is made, and the parts of buffers that are lent for a word and for its message
+-- a buffer as it is made
 abbrev pub scratch : List ℕ
 scratch = replicate 2048 0
 
-abbrev pub word_part : (k h r : ℕ) → List ℕ → List ℕ
-word_part k h r word = take ((1 + (k + h) + r + 7) / 8 - 0) word
-
-abbrev pub message_part : ℕ → List ℕ
-message_part k = take ((k + 8) / 8 - 0) scratch
-
--- a page of the right length with its mark; k, h, e and r are the values that the constants have
-module _ {k1 r1 t r2 : ℕ} {F : Field} (checks : List Bool → List Bool) (S : Setting k1 r1 t r2 F) (k h e r : ℕ) (k_is : k ≡ k1) (h_is : h ≡ r1) (e_is : e ≡ t)
-    (r_is : r ≡ r2) (page before : List ℕ) (lengths : Ok tt ≡ by_values k h e r before page) where
-  passed : Ok tt ≡ page_checked k1 r1 t r2 before page
-  passed = by_constants k h e r k1 r1 t r2 before page k_is h_is e_is r_is lengths
-
+-- a page of the right length with its mark; n, wb, mb and db are the bits of a word and the bytes of a word, a message and data
+module _ {k1 r1 t r2 : ℕ} {F : Field} (checks : List Bool → List Bool) (S : Setting k1 r1 t r2 F) (n wb mb db pb : ℕ)
+    (n_is : n ≡ word_bits k1 r1 r2) (wb_is : wb ≡ bytes_for (word_bits k1 r1 r2)) (mb_is : mb ≡ bytes_for (k1 + 1)) (db_is : db ≡ data_bytes k1)
+    (pb_is : pb ≡ page_bytes k1 r1 t r2) (page before : List ℕ)
+    (lengths : ◌≡◌ {A = Result (Unit {0}) ℕ} (Ok tt) (cond (eqb (length before) db) (cond (eqb (length page) pb) (Ok tt) (Err 2)) (Err 2))) where
   fit : Sized k1 r1 t r2 before page
-  fit = sized k1 r1 t r2 before page passed
+  fit = let both = lengths_pass before page db pb lengths in record { data_sized = both.0 ∙ db_is; page_sized = both.1 ∙ pb_is }
 
-  pub page_holds_a_word : 1 + (k + h) + r ≤ length (bits page)
-  page_holds_a_word = omega (arith, fit.page_sized, bits_length page)
+  pub page_holds_a_word : n ≤ length (bits page)
+  page_holds_a_word = omega (arith, n_is, fit.page_sized, bits_length page)
 
   pub page_small : length page ≤ 2048
   page_small = omega (arith, fit.page_sized, S.page_fits)
 
-  pub word_small : bytes_for (1 + (k + h) + r) ≤ 2048
-  word_small = omega (arith, S.page_fits)
-
-  by_the_mark : (after : List ℕ) (q : Result PageReading Refusal) → true ≡ marked (drop (1 + (k + h) + r) (bits page))
+  by_the_mark : (after : List ℕ) (q : Result PageReading Refusal) → true ≡ marked (drop n (bits page))
       → PageByItsMark true k1 r1 t F checks page before after (told q) → PageRead (page_checked k1 r1 t r2 before page) k1 r1 t F checks page before after q
   by_the_mark after q mark is =
-      subst (λ (y : Result (Unit {0}) ℕ). PageRead y k1 r1 t F checks page before after q) passed
+      subst (λ (y : Result (Unit {0}) ℕ). PageRead y k1 r1 t F checks page before after q) (sym (sizes k1 r1 t r2 before page fit))
       (subst (λ (b : Bool). PageByItsMark b k1 r1 t F checks page before after (told q))
-      (mark ∙ ap (λ (i : ℕ). marked (drop i (bits page))) (let n : 1 + (k + h) + r ≡ word_bits k1 r1 (width F) = omega (arith, S.width_of_a_field) in n)) is)
+      (mark ∙ ap (λ (i : ℕ). marked (drop i (bits page))) (n_is ∙ ap (word_bits k1 r1) S.width_of_a_field)) is)
 
-  room_whole : length (message_part k) ≡ bytes_for (k1 + 1)
-  room_whole =
-      length-take-le ((k + 8) / 8 - 0) scratch (omega (arith, S.page_fits, length-replicate {A = ℕ} 2048 0))
-      ∙ (let b : (k + 8) / 8 - 0 ≡ bytes_for (k1 + 1) = omega arith in b)
+  room_whole : length (take mb scratch) ≡ bytes_for (k1 + 1)
+  room_whole = length-take-le mb scratch (omega (arith, mb_is, S.page_fits, length-replicate {A = ℕ} 2048 0)) ∙ mb_is
 
-  module _ (word after : List ℕ) (mark : true ≡ marked (drop (1 + (k + h) + r) (bits page))) (word_kept : length word ≡ 2048)
-      (cut : bits word ≡ padded (length (bits scratch)) (take (1 + (k + h) + r) (bits page))) where
+  module _ (word after : List ℕ) (mark : true ≡ marked (drop n (bits page))) (word_kept : length word ≡ 2048)
+      (cut : bits word ≡ padded (length (bits scratch)) (take n (bits page))) where
     answers : (q : Result ReadingOf Refusal)
-        → ReadByTheRules k1 r1 t F checks (checked (word_bits k1 r1 r2) (k1 + 1) (word_part k h r word) (message_part k))
-        (word_part k h r word) (message_part k) after q
+        → ReadByTheRules k1 r1 t F checks (checked (word_bits k1 r1 r2) (k1 + 1) (take wb word) (take mb scratch)) (take wb word) (take mb scratch) after q
         → (a : Answer) × Reads k1 r1 t F checks (take (word_bits k1 r1 (width F)) (bits page)) a × (told q ≡ told_of a)
-        × Written (told_of a) (message_in a) (message_part k) after
+        × Written (told_of a) (message_in a) (take mb scratch) after
     answers q =
-        answered checks S page word (message_part k) (length (bits scratch)) ((1 + (k + h) + r + 7) / 8 - 0)
-        (omega (arith, page_holds_a_word)) (omega arith) (omega (arith, word_small)) (omega (arith, word_small, bits_length scratch, length-replicate {A = ℕ} 2048 0))
-        (cut ∙ ap (λ (i : ℕ). padded (length (bits scratch)) (take i (bits page))) (let n : 1 + (k + h) + r ≡ word_bits k1 r1 r2 = omega arith in n))
-        room_whole after q
+        answered checks S page word (take mb scratch) (length (bits scratch)) wb
+        (omega (arith, page_holds_a_word, n_is)) wb_is (omega (arith, wb_is, word_kept, S.page_fits))
+        (omega (arith, wb_is, S.page_fits, bits_length scratch, length-replicate {A = ℕ} 2048 0))
+        (cut ∙ ap (λ (i : ℕ). padded (length (bits scratch)) (take i (bits page))) n_is) room_whole after q
 
     pub refused : (x : Refusal) (q : Result PageReading Refusal) → q ≡ Err x
-        → ReadByTheRules k1 r1 t F checks (checked (word_bits k1 r1 r2) (k1 + 1) (word_part k h r word) (message_part k))
-        (word_part k h r word) (message_part k) after (Err x)
+        → ReadByTheRules k1 r1 t F checks (checked (word_bits k1 r1 r2) (k1 + 1) (take wb word) (take mb scratch)) (take wb word) (take mb scratch) after (Err x)
         → PageRead (page_checked k1 r1 t r2 before page) k1 r1 t F checks page before before q
     refused x q is reads =
         let a = answers (Err x) reads in
@@ -166,17 +152,15 @@ module _ {k1 r1 t r2 : ℕ} {F : Field} (checks : List Bool → List Bool) (S : 
         (by_the_mark before (Err x) mark (a.0, a.1, word_refused a.0 before x a.2))
 
     pub given : (x : ReadingOf) (out : List ℕ)
-        → ReadByTheRules k1 r1 t F checks (checked (word_bits k1 r1 r2) (k1 + 1) (word_part k h r word) (message_part k))
-        (word_part k h r word) (message_part k) after (Ok x)
-        → length after ≡ length (message_part k)
-        → out ≡ take ((k + 1) / 8 - 0) (after ++ drop ((k + 8) / 8 - 0) scratch)
-        ++ replicate (length before - length (take ((k + 1) / 8 - 0) (after ++ drop ((k + 8) / 8 - 0) scratch))) 0
+        → ReadByTheRules k1 r1 t F checks (checked (word_bits k1 r1 r2) (k1 + 1) (take wb word) (take mb scratch)) (take wb word) (take mb scratch) after (Ok x)
+        → length after ≡ length (take mb scratch)
+        → out ≡ take db (after ++ drop mb scratch) ++ replicate (length before - length (take db (after ++ drop mb scratch))) 0
         → PageRead (page_checked k1 r1 t r2 before page) k1 r1 t F checks page before out (Ok (Word x))
     given x out reads kept copied =
         let a = answers (Ok x) reads in
         by_the_mark out (Ok (Word x)) mark (
           a.0,
           a.1,
-          word_given k1 r1 t F checks (take (word_bits k1 r1 (width F)) (bits page)) a.0 (message_part k) after before out x a.1 a.2 a.3 fit.data_sized
-              (data_taken ((k + 1) / 8 - 0) before after (drop ((k + 8) / 8 - 0) scratch) out (omega (arith, fit.data_sized)) (omega (arith, kept, room_whole)) copied),
+          word_given k1 r1 t F checks (take (word_bits k1 r1 (width F)) (bits page)) a.0 (take mb scratch) after before out x a.1 a.2 a.3 fit.data_sized
+              (data_taken db before after (drop mb scratch) out (db_is ∙ sym fit.data_sized) (omega (arith, db_is, kept, room_whole)) copied),
         )

@@ -48,9 +48,9 @@ module _ {k1 r1 t r2 : ℕ} {F : Field} {Codeword : List Bool → Type 0} {check
   some : 0 < k1 + r1
   some = omega (arith, S.a_byte_at_least)
 
-  Q-length : length Q ≡ word_bits k1 r1 r2
+  q_length : length Q ≡ word_bits k1 r1 r2
   unfolding Q
-  Q-length = length-take-le (word_bits k1 r1 r2) W h
+  q_length = length-take-le (word_bits k1 r1 r2) W h
 
   -- y stands at the front of B
   front : take (k1 + r1) B ≡ middle (k1 + r1) Q
@@ -66,7 +66,7 @@ module _ {k1 r1 t r2 : ℕ} {F : Field} {Codeword : List Bool → Type 0} {check
   pub nothing_near : ((c : List Bool) → Near t Codeword (take (k1 + r1) B) c → ⊥) → Reads k1 r1 t F checks (take (word_bits k1 r1 r2) W) unreadable
   unfolding Q
   nothing_near none =
-      reads_nothing k1 r1 t r2 F Codeword checks I S Q Q-length (λ c N. none c (subst (λ (y : List Bool). Near t Codeword y c) (sym front) N))
+      reads_nothing k1 r1 t r2 F Codeword checks I S Q q_length (λ c N. none c (subst (λ (y : List Bool). Near t Codeword y c) (sym front) N))
 
   pub found : (x : Bool) (flips apart turned : ℕ) → Near t Codeword (take (k1 + r1) B) (take (k1 + r1) V) → flips ≡ distance (take (k1 + r1) B) (take (k1 + r1) V)
       → x ≡ get_or W 0 false → apart ≡ weight (add (each x (take r2 (drop (1 + (k1 + r1)) W))) (f_bits F (take k1 V)))
@@ -88,7 +88,7 @@ module _ {k1 r1 t r2 : ℕ} {F : Field} {Codeword : List Bool → Type 0} {check
       long = omega (arith, some, I.long c N.code)
 
       long_y : 0 < length y
-      long_y = omega (arith, some, middle_length (k1 + r1) r2 Q Q-length)
+      long_y = omega (arith, some, middle_length (k1 + r1) r2 Q q_length)
 
       data_bits : take k1 c ≡ take k1 V
       data_bits = take-take k1 (k1 + r1) V (omega arith)
@@ -103,11 +103,11 @@ module _ {k1 r1 t r2 : ℕ} {F : Field} {Codeword : List Bool → Type 0} {check
           ∙ ap (λ (n : ℕ). cond (not (beq (get_or y 0 false) (get_or c 0 false))) (n - 1) (n + 1)) flips_are ∙ turned_is y c long_y long
 
       go : (q : List Bool) → Q ≡ q → Reads k1 r1 t F checks Q (settled t r2 x (take k1 V) flips turned apart)
-      go [] e = absurd (omega (arith, Q-length, ap length e))
+      go [] e = absurd (omega (arith, q_length, ap length e))
       go (z ∷ zs) e =
           subst (λ (q : List Bool). Reads k1 r1 t F checks q (settled t r2 x (take k1 V) flips turned apart)) (sym e)
           (subst (Reads k1 r1 t F checks (z ∷ zs)) same
-          (reads_settled k1 r1 t r2 F Codeword checks I S z zs c (sym (ap length e) ∙ Q-length) (subst (λ (q : List Bool). Near t Codeword (middle (k1 + r1) q) c) e near)))
+          (reads_settled k1 r1 t r2 F Codeword checks I S z zs c (sym (ap length e) ∙ q_length) (subst (λ (q : List Bool). Near t Codeword (middle (k1 + r1) q) c) e near)))
         where
           x_is : z ≡ x
           x_is = ap (λ (w : List Bool). get_or w 0 false) (sym e) ∙ front_first (word_bits k1 r1 r2) W (omega arith) ∙ sym ex

@@ -6,10 +6,12 @@ ghost use Rattle.wordcode.specs.Refusals.{told};
 ghost use Rattle.wordcode.specs.Bytes.{padded};
 ghost use Rattle.wordcode.specs.Page.{page_of, page_checked, PageMade, marked, PageRead};
 
+use crate::lengths::check_lengths;
 use crate::refusal::Refusal;
-use crate::runs::copy_and_clear;
+use crate::runs::{Buffer, copy_and_clear, set_bits_behind};
+use crate::sizes::{data_bytes, message_bytes, page_bytes, word_bits, word_bytes};
 use crate::word::{Reading, encode, read};
-use gf2::bits::{is_set, put_number};
+use gf2::bits::put_number;
 use inner::code::InnerCode;
 
 // What a page held: nothing, by its mark, or a word that was read.
@@ -19,35 +21,20 @@ pub enum PageReading {
     Word(Reading),
 }
 
-// Whether there are `count` data bytes and a page of `size` bytes.
-fn check_lengths(bytes: &[u8], count: usize, page: &[u8], size: usize) -> Result<(), Refusal>
-    ensures refuses_another_length { told result ≡ (if nat_eq (length bytes.now) count then (if nat_eq (length page.now) size then Ok tt else Err 2) else Err 2) }
-{
-    if bytes.len() != count || page.len() != size {
-        return Err(Refusal::WrongLength);
-    }
-    Ok(())
-}
-
 // The page of data bytes. Refused: the page stays as it is.
-pub fn encode_page<
-    C: InnerCode<K1, R1, T, R2>,
-    const K1: usize,
-    const R1: usize,
-    const T: usize,
-    const R2: usize,
->(bytes: &[u8], page: &mut [u8]) -> Result<(), Refusal>
-    ensures refuses_a_wrong_length { told result ≡ page_checked K1 R1 T R2 bytes.now page.old }
-    ensures writes_the_codeword_and_the_mark_or_nothing { PageMade (told result) (page_of K1 R1 T C.InnerCode.field C.InnerCode.checks bytes.now) page.old page.new }
+pub fn encode_page<C: InnerCode>(bytes: &[u8], page: &mut [u8]) -> Result<(), Refusal>
+    ensures refuses_a_wrong_length { told result ≡ page_checked C.DATA C.CHECKS C.ERRORS C.TAIL bytes.now page.old }
+    ensures writes_the_codeword_and_the_mark_or_nothing { PageMade (told result) (page_of C.DATA C.CHECKS C.ERRORS C.FIELD C.checks bytes.now) page.old page.new }
 {
-    let k1 = C::DATA.value;
-    let n = 1 + (k1 + C::CHECKS.value) + C::TAIL.value;
-    check_lengths(bytes, (k1 + 1) / 8, page, (n + 2 * C::ERRORS.value + 8) / 8)?;
-    let mut message = [0u8; 2048];
+    check_lengths(bytes, data_bytes::<C>(), page, page_bytes::<C>())?;
+    let mut message: Buffer = [0; 2048];
     copy_and_clear(bytes, &mut message);
     // The word's spare bits and what follows them are the mark.
-    copy_and_clear(&[], page);
-    encode::<C, K1, R1, T, R2>(&message[0..(k1 + 8) / 8], &mut page[0..(n + 7) / 8])
+    page.fill(0);
+    encode::<C>(
+        &message[..message_bytes::<C>()],
+        &mut page[..word_bytes::<C>()],
+    )
 }
 
 // Whether fewer than half of the bits behind the first `count` are set.
@@ -55,14 +42,7 @@ fn is_marked(page: &[u8], count: usize) -> bool
     requires small { (count ≤ length (bits page.now)) × (length page.now ≤ 2048) }
     ensures most_bits_of_the_mark_are_zero { result ≡ marked (drop count (bits page.now)) }
 {
-    let end = 8 * page.len();
-    let mut ones = 0;
-    for place in count..end {
-        if is_set(page, place) {
-            ones += 1;
-        }
-    }
-    2 * ones < end - count
+    2 * set_bits_behind(page, count) < 8 * page.len() - count
 }
 
 // Copies the first `count` bits and puts zeros behind them.
@@ -72,31 +52,28 @@ fn first_bits(page: &[u8], count: usize, word: &mut [u8])
     ensures those_bits_then_zeros { bits word.new ≡ padded (length (bits word.old)) (take count (bits page.now)) }
 {
     let whole = (count + 7) / 8;
-    copy_and_clear(&page[0..whole], word);
+    copy_and_clear(&page[..whole], word);
     let _ = put_number(word, count, (8 * whole - count) as u32, 0);
 }
 
 // The data bytes of a page, as its mark says: of a word read by the rules, or all FF. Refused: the bytes stay as they are.
-pub fn read_page<
-    C: InnerCode<K1, R1, T, R2>,
-    const K1: usize,
-    const R1: usize,
-    const T: usize,
-    const R2: usize,
->(page: &[u8], bytes: &mut [u8]) -> Result<PageReading, Refusal>
-    ensures refuses_a_wrong_length_then_reads_by_the_mark { PageRead (page_checked K1 R1 T R2 bytes.old page.now) K1 R1 T C.InnerCode.field C.InnerCode.checks page.now bytes.old bytes.new result }
+pub fn read_page<C: InnerCode>(page: &[u8], bytes: &mut [u8]) -> Result<PageReading, Refusal>
+    ensures refuses_a_wrong_length_then_reads_by_the_mark { PageRead (page_checked C.DATA C.CHECKS C.ERRORS C.TAIL bytes.old page.now) C.DATA C.CHECKS C.ERRORS C.FIELD C.checks page.now bytes.old bytes.new result }
 {
-    let k1 = C::DATA.value;
-    let n = 1 + (k1 + C::CHECKS.value) + C::TAIL.value;
-    check_lengths(bytes, (k1 + 1) / 8, page, (n + 2 * C::ERRORS.value + 8) / 8)?;
-    if !is_marked(page, n) {
+    let held = data_bytes::<C>();
+    check_lengths(bytes, held, page, page_bytes::<C>())?;
+    let bits = word_bits::<C>();
+    if !is_marked(page, bits) {
         bytes.fill(0xFF);
         return Ok(PageReading::Blank);
     }
-    let mut word = [0u8; 2048];
-    first_bits(page, n, &mut word);
-    let mut message = [0u8; 2048];
-    let reading = read::<C, K1, R1, T, R2>(&word[0..(n + 7) / 8], &mut message[0..(k1 + 8) / 8])?;
-    copy_and_clear(&message[0..(k1 + 1) / 8], bytes);
+    let mut word: Buffer = [0; 2048];
+    first_bits(page, bits, &mut word);
+    let mut message: Buffer = [0; 2048];
+    let reading = read::<C>(
+        &word[..word_bytes::<C>()],
+        &mut message[..message_bytes::<C>()],
+    )?;
+    copy_and_clear(&message[..held], bytes);
     Ok(PageReading::Word(reading))
 }

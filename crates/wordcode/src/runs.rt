@@ -1,35 +1,21 @@
-// Runs of bits within bytes.
-ghost use Rattle.std.specs.Prelude.{◌≡◌, ◌+◌, ◌-◌, ◌^◌, ◌≤◌, ◌++◌, length, take, drop, replicate};
-ghost use Rattle.gf2.specs.Words.{bits, with_run};
-ghost use Rattle.wordcode.specs.Bytes.{spare_clear};
+// Bytes and runs of bits within them.
+ghost use Rattle.std.specs.Prelude.{◌≡◌, ◌-◌, ◌*◌, ◌≤◌, ◌++◌, false, length, replicate, slice_index_or};
+ghost use Rattle.std.specs.List.{count_by, range_with_len};
+ghost use Rattle.gf2.specs.Words.{bits};
 
-use gf2::bits::{is_set, put};
+use gf2::bits::is_set;
 
-// Whether no bit behind the first `count` is set.
-pub(crate) fn spare_bits_clear(bytes: &[u8], count: usize) -> bool
+// There is no heap, so what is put together stands in a buffer that holds the longest page, whatever the setting.
+pub(crate) type Buffer = [u8; 2048];
+
+// The number of set bits behind the first `count`: the weight of what is behind them, counted place by place.
+pub(crate) fn set_bits_behind(bytes: &[u8], count: usize) -> usize
     requires small { length bytes.now ≤ 2048 }
-    ensures no_bit_behind_is_set { result ≡ spare_clear count bytes.now }
+    ensures set_places_behind { result ≡ count_by (λ place. slice_index_or (bits bytes.now) place false) (range_with_len count (8 * length bytes.now - count)) }
 {
-    let mut place = count;
-    while place < 8 * bytes.len() {
-        if is_set(bytes, place) {
-            return false;
-        }
-        place += 1;
-    }
-    true
-}
-
-// Copies the `count` bits behind the first `skip` over those of `out` behind the first `at`.
-pub(crate) fn copy_run(source: &[u8], skip: usize, count: usize, out: &mut [u8], at: usize)
-    requires source_has_them { skip + count ≤ length (bits source.now) }
-    requires out_has_room { at + count ≤ length (bits out.old) }
-    requires places_fit { (skip + count ≤ 2 ^ 64) × (at + count ≤ 2 ^ 64) }
-    ensures copied { bits out.new ≡ with_run at (take count (drop skip (bits source.now))) (bits out.old) }
-{
-    for done in 0..count {
-        put(out, at + done, is_set(source, skip + done));
-    }
+    (count..8 * bytes.len())
+        .filter(|place| is_set(bytes, *place))
+        .count()
 }
 
 // Copies the source to the front and puts zeros behind it.

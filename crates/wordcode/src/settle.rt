@@ -1,26 +1,52 @@
-// The answer for a word once the inner codeword near its middle is known.
-ghost use Rattle.std.specs.Prelude.{◌≡◌, ◌+◌, ◌-◌, ◌*◌, ◌%◌, ◌<◌, ◌≤◌, length, take, drop, if◌then◌else◌, Some};
-ghost use Rattle.gf2.specs.declared.field.Field.{Field as FieldOf};
-ghost use Rattle.gf2.specs.Words.{bits, add, weight};
-ghost use Rattle.gf2.specs.Fields.{width as width_of, field_of};
-ghost use Rattle.pagecode.specs.InnerData.{each};
-ghost use Rattle.wordcode.specs.Codeword.{f_bits};
-ghost use Rattle.wordcode.specs.Refusals.{told};
-ghost use Rattle.wordcode.specs.Bytes.{padded};
-ghost use Rattle.wordcode.specs.Settling.{message_of, chosen, answer_with};
-ghost use Rattle.wordcode.specs.Encoding.{Written, told_of, message_in};
+// Which message the rules choose once the inner codeword near the middle of a word is known: it belongs to two codewords, one for each u.
+ghost use Rattle.std.specs.Prelude.{◌≡◌, ◌+◌, ◌-◌, ◌<◌, ◌≤◌, false, length, if◌then◌else◌, slice_index_or};
+ghost use Rattle.gf2.specs.Words.{bits};
+ghost use Rattle.inner.specs.Pages.{word_bits as word_bits_of};
+ghost use Rattle.wordcode.specs.Settling.{chosen, chosen_by, last_bits_apart};
 
-use crate::last::last_bits;
-use crate::refusal::Refusal;
-use crate::runs::{copy_and_clear, copy_run};
+use crate::runs::Buffer;
+use crate::tail::{bits_apart, tail};
 use crate::word::Reading;
-use gf2::bits::{is_set, number, put};
+use gf2::bits::is_set;
+use inner::code::InnerCode;
 
 // The u of the message that the rules choose, with what is told of it.
 #[derive(Clone, Copy)]
 pub(crate) struct Choice {
     pub u: bool,
     pub reading: Reading,
+}
+
+// The two codewords against the word.
+#[derive(Clone, Copy)]
+pub(crate) struct Candidates {
+    // The word's first bit, and the u of the first codeword.
+    pub first: bool,
+    // The distance of the first codeword.
+    pub near: usize,
+    // The distance of the other.
+    pub far: usize,
+    // Whether the other has the word's last bits.
+    pub far_ends_alike: bool,
+}
+
+impl Candidates {
+    // By distance first, then by the last bits.
+    pub(crate) fn choose(self, t: usize) -> Option<Choice>
+        ensures by_the_rules { result ≡ chosen t self.first self.near self.far self.far_ends_alike }
+    {
+        let (u, distance, over) = if self.near <= t {
+            (self.first, self.near, false)
+        } else if self.far <= t {
+            (!self.first, self.far, false)
+        } else if self.far_ends_alike {
+            (!self.first, self.far, true)
+        } else {
+            return None;
+        };
+        let reading = Reading { distance, over };
+        Some(Choice { u, reading })
+    }
 }
 
 // The distance of two words after a bit of one is turned, by whether they differed there.
@@ -35,71 +61,26 @@ pub(crate) fn turned_distance(distance: usize, differed: bool) -> usize
     }
 }
 
-// How many of the last bits differ from those of the codeword with that u.
-pub(crate) fn last_bits_apart(
+// The choice for a word when v begins `inner`: `flips` is the distance of v from the word's middle y, `turned` that from y with its first bit turned.
+pub(crate) fn settle<C: InnerCode>(
     word: &[u8],
-    skip: usize,
-    inner: &[u8],
-    k1: usize,
-    width: u32,
-    u: bool,
-) -> usize
-    requires word_has_them { skip + width ≤ length (bits word.now) }
-    ensures differing_last_bits { (F : FieldOf) → field_of width ≡ Some F → k1 % (2 * width_of F) ≡ 0 → k1 ≤ length (bits inner.now) → result ≡ weight (add (each u (take width (drop skip (bits word.now)))) (f_bits F (take k1 (bits inner.now)))) }
-    ensures no_more_than_16 { result ≤ 16 }
+    inner: &Buffer,
+    flips: usize,
+    turned: usize,
+) -> Option<Choice>
+    requires word_has_its_bits { word_bits_of C.DATA C.CHECKS C.TAIL ≤ length (bits word.now) }
+    requires small { (flips ≤ 65536) × (turned ≤ 65536) }
+    ensures by_the_rules { result ≡ chosen_by C.ERRORS C.TAIL (slice_index_or (bits word.now) 0 false) flips turned (last_bits_apart C.DATA C.CHECKS C.FIELD (bits word.now) (bits inner.now)) }
 {
-    let there = number(word, skip, width).unwrap_or(0);
-    (there ^ last_bits(inner, k1, width, u)).count_ones() as usize
-}
-
-// By distance first, then by the last bits.
-fn choose(t: usize, x: bool, near: usize, far: usize, same: bool) -> Option<Choice>
-    ensures by_the_rules { result ≡ chosen t x near far same }
-{
-    let (u, distance, over) = if near <= t {
-        (x, near, false)
-    } else if far <= t {
-        (!x, far, false)
-    } else if same {
-        (!x, far, true)
-    } else {
-        return None;
+    let r2 = C::TAIL;
+    let first = is_set(word, 0);
+    let last = tail::<C>(inner, first);
+    let apart = bits_apart(word, 1 + (C::DATA + C::CHECKS), C::FIELD, last);
+    let candidates = Candidates {
+        first,
+        near: flips + apart,
+        far: 1 + turned + r2.saturating_sub(apart),
+        far_ends_alike: apart == r2,
     };
-    let reading = Reading { distance, over };
-    Some(Choice { u, reading })
-}
-
-// The message of u and the data bits, then zeros.
-fn write_message(inner: &[u8], k1: usize, u: bool, message: &mut [u8])
-    requires inner_has_the_data { (k1 ≤ length (bits inner.now)) × ((0 < k1) × (k1 < 16384)) }
-    requires message_has_room { k1 + 1 ≤ length (bits message.old) }
-    ensures written { bits message.new ≡ padded (length (bits message.old)) (message_of u (take k1 (bits inner.now))) }
-{
-    copy_and_clear(&[], message);
-    put(message, 0, u);
-    copy_run(inner, 0, k1, message, 1);
-    put(message, 1, is_set(inner, 0) != u);
-}
-
-// Writes the message that the rules choose, and tells its distance.
-pub(crate) fn settle(
-    inner: &[u8],
-    k1: usize,
-    t: usize,
-    x: bool,
-    near: usize,
-    far: usize,
-    same: bool,
-    message: &mut [u8],
-) -> Result<Reading, Refusal>
-    requires inner_has_the_data { (k1 ≤ length (bits inner.now)) × ((0 < k1) × (k1 < 16384)) }
-    requires message_has_room { k1 + 1 ≤ length (bits message.old) }
-    ensures tells_the_answer { told result ≡ told_of (answer_with (take k1 (bits inner.now)) (chosen t x near far same)) }
-    ensures writes_the_message_or_nothing { Written (told result) (message_in (answer_with (take k1 (bits inner.now)) (chosen t x near far same))) message.old message.new }
-{
-    let Some(choice) = choose(t, x, near, far, same) else {
-        return Err(Refusal::Unreadable);
-    };
-    write_message(inner, k1, choice.u, message);
-    Ok(choice.reading)
+    candidates.choose(C::ERRORS)
 }

@@ -9,14 +9,16 @@ use Rattle.wordcode.proofs.Padding.{bits_padded, padded_cut}
 use Rattle.wordcode.proofs.page.first_bits.Goals as goal
 
 pub slice_bounds-copy_and_clear-end : goal.slice_bounds-copy_and_clear-end
-slice_bounds-copy_and_clear-end c = omega (arith, c.requires.page_has_them, bits_length c.args.page.now)
+slice_bounds-copy_and_clear-end c =
+    let whole = (c.args.count + 7) / 8 in
+    sym (length-take-le whole c.args.page.now (omega (arith, c.requires.page_has_them, bits_length c.args.page.now)))
 
 pub returns : goal.returns
 returns c =
     let n = c.args.count in
     let P = c.args.page.now in
     let W = c.args.word.now in
-    let b = (n + 7) / 8 - 0 in
+    let b = (n + 7) / 8 in
     let s = 8 * ((n + 7) / 8) - n in
     let out = c.copy_and_clear.new.out in
     let enough : b ≤ length P = omega (arith, c.requires.page_has_them, bits_length P) in
