@@ -10,7 +10,7 @@ fn explain(rt: &impl Print) -> anyhow::Result<()> {
     let message = [0b1010_1100, 0b1111_0100, 0b1110_0000];
     let mut v_k = [0u8; 3];
     ensure!(
-        inner_data(&message, 18, &mut v_k),
+        inner_data(&message, 18, &mut v_k).is_ok(),
         "the message is too short"
     );
     let steps = Steps::of(Field::Three, &message, &v_k, 18).context(
