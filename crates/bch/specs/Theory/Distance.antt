@@ -1,7 +1,7 @@
 -- Two codewords of a BCH code are far apart: the points of the bits in which they differ would be too few for their syndromes to vanish.
 use Rattle.std.proofs.Common.{◌≡◌, ℕ, suc, ◌+◌, ◌<◌, ◌≤◌, Bool, true, false, cond, ◌≢◌, List, [], ◌∷◌, length, sym, refl, ap, ◌∙◌, ap₂, arith}
 use lib.Bits.{bit_xor, xor_zero_r, xor_self}
-use Rattle.std.specs.List.{AllByRecursion as All}
+use Rattle.std.specs.List.{AllByRecursion}
 use Rattle.gf2.specs.Polynomials.{power, power_sum, Distinct, Nonzero}
 use Rattle.gf2.specs.Words.{plus, add, weight}
 use Rattle.gf2.proofs.Sums.{add_length}
@@ -23,7 +23,7 @@ locs_length a [] = refl
 locs_length a (true ∷ bs) = ap suc (locs_length a bs)
 locs_length a (false ∷ bs) = locs_length a bs
 
-pub locs_all : (a : ℕ → ℕ) (P : ℕ → Type 0) (w : List Bool) → ((i : ℕ) → i < length w → P (a i)) → All P (locs a w)
+pub locs_all : (a : ℕ → ℕ) (P : ℕ → Type 0) (w : List Bool) → ((i : ℕ) → i < length w → P (a i)) → AllByRecursion P (locs a w)
 unfolding locs
 locs_all a P [] h = tt
 locs_all a P (true ∷ bs) h = (h (length bs) (omega arith), locs_all a P bs (λ i l. h i (omega arith)))
@@ -68,12 +68,12 @@ module _ (k : ℕ) (m : ℕ → ℕ → ℕ) (F : IsField k m) (a : ℕ → ℕ)
   pub distance : (t : ℕ) (w : List Bool) → length w ≤ N → SumsVanish m a t w → weight w ≤ t + t → weight w ≡ 0
   distance t w fits code few = ends (locs a w) (locs_length a w) zeros
     where
-      zeros : All (λ x. ◌≡◌ {A = ℕ} 1 0) (locs a w)
+      zeros : AllByRecursion (λ x. ◌≡◌ {A = ℕ} 1 0) (locs a w)
       zeros =
           v.vandermonde k m F (locs a w) (λ x. 1) 1 (locs_all a (Nonzero k) w (λ i l. points i (omega arith)))
           (locs_apart a w (λ i j l q. apart i j l (omega arith))) (λ x. nontrivial)
           (λ j l u. sym (locator_sum_is_power_sum w j) ∙ code j l (omega (arith, locs_length a w)))
 
-      ends : (xs : List ℕ) → length xs ≡ weight w → All (λ x. ◌≡◌ {A = ℕ} 1 0) xs → weight w ≡ 0
+      ends : (xs : List ℕ) → length xs ≡ weight w → AllByRecursion (λ x. ◌≡◌ {A = ℕ} 1 0) xs → weight w ≡ 0
       ends [] h z = sym h
       ends (x ∷ xs) h z = let e = z.0 in absurd (omega arith)

@@ -3,7 +3,7 @@ use Rattle.std.proofs.Common.{◌≡◌, ℕ, zero, suc, ◌+◌, ◌-◌, ◌*�
 use lib.Bits.{bit_xor}
 use Rattle.gf2.specs.declared.field.Field.{Field}
 use Rattle.gf2.specs.Words.{plus, add, weight, distance, bits_of}
-use Rattle.std.specs.List.{AllByRecursion as All}
+use Rattle.std.specs.List.{AllByRecursion}
 use Rattle.std.proofs.ByRecursion.{All-append}
 use Rattle.gf2.specs.Polynomials.{power as power_under}
 use Rattle.gf2.specs.Fields.{width, product, power, alpha}
@@ -47,7 +47,7 @@ rest_value m z (suc k) (b ∷ w) (d ∷ x) l e =
 
 -- the word is 0 at every exponent of the orbits
 at_orbits : (F : Field) (w : List Bool) (i : ℕ) → Codeword F i w
-    → All (λ e. word_value (product F) (power F alpha e) w ≡ 0) (orbits (2 ^ width F - 1) (width F) i)
+    → AllByRecursion (λ e. word_value (product F) (power F alpha e) w ≡ 0) (orbits (2 ^ width F - 1) (width F) i)
 unfolding orbits
 at_orbits F w zero z = tt
 at_orbits F w (suc i) z =

@@ -4,7 +4,7 @@ use native.Mathlib.Decide.{dec_lt}
 use lib.ListN.{length-map}
 use lib.Dec.{eqb_refl}
 use lib.Bits.{bit_xor, xor_comm, xor_assoc, xor_zero_r, xor_self}
-use Rattle.std.specs.List.{AllByRecursion as All}
+use Rattle.std.specs.List.{AllByRecursion}
 use Rattle.std.proofs.ByRecursion.{All-weaker, All-map}
 use Rattle.gf2.specs.Polynomials.{power, value, Distinct, Element}
 use Rattle.gf2.specs.Words.{weight}
@@ -39,7 +39,7 @@ module _ (k : ℕ) (m : ℕ → ℕ → ℕ) (F : IsField k m) where
   open F use {nontrivial, no_zero_divisors}
   open F.ring use {closed, commutative, associative, distributive, unit, zero_product}
 
-  low_first_value : (bs : List Bool) (cs : List ℕ) (z : ℕ) → All (Element k) cs → value m (low_first bs cs) z ≡ m (power m z (length bs)) (value m cs z) ⊕ word_value m z bs
+  low_first_value : (bs : List Bool) (cs : List ℕ) (z : ℕ) → AllByRecursion (Element k) cs → value m (low_first bs cs) z ≡ m (power m z (length bs)) (value m cs z) ⊕ word_value m z bs
   unfolding low_first word_value value power
   low_first_value [] cs z h = sym (xor_zero_r (m 1 (value m cs z)) ∙ unit (value m cs z) (value_lt k m F cs z h))
   low_first_value (b ∷ bs) cs z h =
@@ -52,19 +52,19 @@ module _ (k : ℕ) (m : ℕ → ℕ → ℕ) (F : IsField k m) where
       ∙ xor_comm A (m (m z P) E))
       ∙ xor_assoc (m (m z P) E) A (word_value m z bs)
 
-  low_first_low : (bs : List Bool) (cs : List ℕ) → All (λ c. c < 2 ^ k) cs → All (λ c. c < 2 ^ k) (low_first bs cs)
+  low_first_low : (bs : List Bool) (cs : List ℕ) → AllByRecursion (λ c. c < 2 ^ k) cs → AllByRecursion (λ c. c < 2 ^ k) (low_first bs cs)
   unfolding low_first
   low_first_low [] cs h = h
   low_first_low (b ∷ bs) cs h = low_first_low bs (cond b 1 0 ∷ cs) (horner.bit_lt k m F b, h)
 
   -- a set bit is a coefficient other than 0
-  some_bit : (bs : List Bool) (cs : List ℕ) → (All (λ c. c ≡ 0) cs → ⊥) → All (λ c. c ≡ 0) (low_first bs cs) → ⊥
+  some_bit : (bs : List Bool) (cs : List ℕ) → (AllByRecursion (λ c. c ≡ 0) cs → ⊥) → AllByRecursion (λ c. c ≡ 0) (low_first bs cs) → ⊥
   unfolding low_first
   some_bit [] cs some h = some h
   some_bit (b ∷ bs) cs some h = some_bit bs (cond b 1 0 ∷ cs) (λ q. some q.1) h
 
   -- as many distinct roots as bits
-  pub no_bits : (w : List Bool) (zs : List ℕ) → All (Element k) zs → Distinct zs → length w ≤ length zs → All (λ z. word_value m z w ≡ 0) zs → weight w ≡ 0
+  pub no_bits : (w : List Bool) (zs : List ℕ) → AllByRecursion (Element k) zs → Distinct zs → length w ≤ length zs → AllByRecursion (λ z. word_value m z w ≡ 0) zs → weight w ≡ 0
   unfolding word_value
   no_bits [] zs low apart h e = refl
   no_bits (false ∷ bs) zs low apart h e = no_bits bs zs low apart (omega arith) e
@@ -72,7 +72,7 @@ module _ (k : ℕ) (m : ℕ → ℕ → ℕ) (F : IsField k m) where
       absurd
       (omega (arith, few_roots k m F (low_first bs (1 ∷ [])) zs (low_first_low bs (1 ∷ []) (nontrivial, tt)) (some_bit bs (1 ∷ []) one_is_not_0) low apart (All-weaker _ _ same zs e), low_first_length bs (1 ∷ [])))
     where
-      one_is_not_0 : All (λ (c : ℕ). c ≡ 0) (1 ∷ []) → ⊥
+      one_is_not_0 : AllByRecursion (λ (c : ℕ). c ≡ 0) (1 ∷ []) → ⊥
       one_is_not_0 q = let z : ◌≡◌ {A = ℕ} 1 0 = q.0 in omega arith
 
       same : (z : ℕ) → word_value m z (true ∷ bs) ≡ 0 → value m (low_first bs (1 ∷ [])) z ≡ 0
@@ -101,7 +101,7 @@ module _ (k : ℕ) (m : ℕ → ℕ → ℕ) (F : IsField k m) where
       bit false = sym (zero_product 0)
 
   module _ (x N : ℕ) (back : power m x N ≡ 1) where
-    pub twice_roots : (w : List Bool) (n e : ℕ) → word_value m (power m x e) w ≡ 0 → All (λ d. word_value m (power m x d) w ≡ 0) (twice N n e)
+    pub twice_roots : (w : List Bool) (n e : ℕ) → word_value m (power m x e) w ≡ 0 → AllByRecursion (λ d. word_value m (power m x d) w ≡ 0) (twice N n e)
     unfolding twice
     twice_roots w zero e h = tt
     twice_roots w (suc n) e h = (
@@ -119,7 +119,7 @@ module _ (k : ℕ) (m : ℕ → ℕ → ℕ) (F : IsField k m) where
         go (yes l) = apart d e l he q
         go (no l) = apart e d (omega arith) hd (sym q)
 
-    below : (es : List ℕ) → T (differ N es) → All (λ e. e < N) es
+    below : (es : List ℕ) → T (differ N es) → AllByRecursion (λ e. e < N) es
     unfolding differ
     below [] t = tt
     below (e ∷ es) t = (
@@ -127,13 +127,13 @@ module _ (k : ℕ) (m : ℕ → ℕ → ℕ) (F : IsField k m) where
       below es (cond_r (not_in e es) (differ N es) (cond_r (ltb e N) (cond (not_in e es) (differ N es) false) t)),
     )
 
-    far : (e : ℕ) (es : List ℕ) → e < N → All (λ d. d < N) es → T (not_in e es) → All (λ y. y ≢ a e) (map a es)
+    far : (e : ℕ) (es : List ℕ) → e < N → AllByRecursion (λ d. d < N) es → T (not_in e es) → AllByRecursion (λ y. y ≢ a e) (map a es)
     unfolding not_in
     far e [] h low t = tt
     far e (d ∷ ds) h low t = go (eqb d e) refl t (far e ds h low.1)
       where
-        go : (b : Bool) → eqb d e ≡ b → T (elim b [ true ↦ false | false ↦ not_in e ds ]) → (T (not_in e ds) → All (λ y. y ≢ a e) (map a ds))
-            → (a d ≢ a e) × All (λ y. y ≢ a e) (map a ds)
+        go : (b : Bool) → eqb d e ≡ b → T (elim b [ true ↦ false | false ↦ not_in e ds ]) → (T (not_in e ds) → AllByRecursion (λ y. y ≢ a e) (map a ds))
+            → (a d ≢ a e) × AllByRecursion (λ y. y ≢ a e) (map a ds)
         go true q t ih = absurd t
         go false q t ih = (either d e low.0 h (λ z. subst T q (subst (λ (y : ℕ). T (eqb y e)) (sym z) (eqb_refl e))), ih t)
 
@@ -146,10 +146,10 @@ module _ (k : ℕ) (m : ℕ → ℕ → ℕ) (F : IsField k m) where
         (far e es low.0 low.1 (cond_l (not_in e es) (differ N es) r), apart_map es (cond_r (not_in e es) (differ N es) r))
 
     pub fixed : (es : List ℕ) → T (differ N es) → ((e : ℕ) → a e < 2 ^ k) → (w : List Bool) → length w ≤ length es
-        → All (λ e. word_value m (a e) w ≡ 0) es → weight w ≡ 0
+        → AllByRecursion (λ e. word_value m (a e) w ≡ 0) es → weight w ≡ 0
     fixed es t low w h zs =
         no_bits w (map a es) (All-map (λ y. y < 2 ^ k) a es (every es)) (apart_map es t) (omega (arith, length-map es a)) (All-map (λ y. word_value m y w ≡ 0) a es zs)
       where
-        every : (es : List ℕ) → All (λ e. a e < 2 ^ k) es
+        every : (es : List ℕ) → AllByRecursion (λ e. a e < 2 ^ k) es
         every [] = tt
         every (e ∷ es) = (low e, every es)
