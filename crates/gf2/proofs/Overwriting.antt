@@ -6,7 +6,6 @@ use Rattle.std.proofs.Math.Seq.{take-add}
 use Rattle.std.proofs.lemmas.List.{append_assoc, append-nil, drop_all, drop_at, length-take-le, drop_more, take_all, take_at}
 use Rattle.std.proofs.lemmas.Bool.{le-leb, lt-leb}
 use Rattle.gf2.specs.Words.{bits, bits_of, with_run, room_for, with_number}
-use Rattle.gf2.proofs.Sums.{bits_of_length}
 use Rattle.gf2.proofs.Places.{bits_length, bits_append}
 
 -- a run that begins where another ends
@@ -62,10 +61,6 @@ run_more at j s w hs hw =
           length-drop (at + length (take j s)) w,
         )
 
--- no bit of the run yet
-pub run_none : (at : ℕ) (s w : List Bool) → w ≡ with_run at (take 0 s) w
-run_none at s w = sym (take-append-drop at w) ∙ ap (λ (n : ℕ). take at w ++ drop n w) (let e : at ≡ at + 0 = omega arith in e)
-
 -- every bit of the run
 pub run_all : (at j : ℕ) (s w : List Bool) → length s ≤ j → with_run at (take j s) w ≡ with_run at s w
 run_all at j s w h = ap (λ (r : List Bool). with_run at r w) (take_all j s h)
@@ -106,7 +101,3 @@ no_room w s k few h = ap (λ (b : Bool). cond b (leb (s + k) (length w)) false) 
 -- a number for which there is room
 pub number_there : (w : List Bool) (s k n : ℕ) → k ≤ 128 → s + k ≤ length w → with_number w s k n ≡ with_run s (bits_of k n) w
 number_there w s k n few h = ap (λ (b : Bool). cond b (with_run s (bits_of k n) w) w) (room_there w s k few h)
-
--- the same, with the run's end by its number of bits
-pub number_between : (w : List Bool) (s k n : ℕ) → k ≤ 128 → s + k ≤ length w → with_number w s k n ≡ take s w ++ (bits_of k n ++ drop (s + k) w)
-number_between w s k n few h = number_there w s k n few h ∙ ap (λ (i : ℕ). take s w ++ (bits_of k n ++ drop (s + i) w)) (bits_of_length k n)

@@ -1,11 +1,10 @@
 // The five binary fields. An element is a number below 2^m, its bits the coefficients from x^(m-1) down to 1.
 // Of a number that is no element only the low m bits count.
-ghost use Rattle.std.specs.Prelude.{◌≡◌, ◌^◌, ◌<◌, nat_lt};
+ghost use Rattle.std.specs.Prelude.{◌≡◌, ◌^◌, nat_lt};
 ghost use Rattle.gf2.specs.Fields.{width as width_of, top, modulus_tail, element as element_of, sum as sum_in, alpha, product as product_in, power as power_in, inverse as inverse_in, IsInverse, IsFieldOfWidth};
 
 use crate::modulus::Modulus;
-use std::error::Error;
-use std::fmt;
+use thiserror::Error;
 
 // A field by the bits m of its elements.
 #[derive(Clone, Copy, PartialEq, Eq, Debug)]
@@ -18,16 +17,9 @@ pub enum Field {
 }
 
 // The bits of an element that no field of the five has.
-#[derive(Clone, Copy, PartialEq, Eq, Debug)]
+#[derive(Clone, Copy, PartialEq, Eq, Debug, Error)]
+#[error("no field has elements of {0} bits")]
 pub struct NoSuchField(pub u32);
-
-impl fmt::Display for NoSuchField {
-    fn fmt<W: fmt::Write>(&self, f: &mut fmt::Formatter<W>) -> fmt::Result {
-        write!(f, "no field has elements of {} bits", self.0)
-    }
-}
-
-impl Error for NoSuchField {}
 
 // The field whose elements have that many bits.
 impl TryFrom<u32> for Field {

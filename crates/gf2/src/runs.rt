@@ -4,17 +4,6 @@ ghost use Rattle.gf2.specs.Words.{bits, bits_of, with_run, both_have, with_bits_
 
 use crate::bits::{NoRoom, hold_behind, number, write_number};
 
-// Copies fewer than 8 bits, one after the other.
-fn copy_few(source: &[u8], skip: usize, count: u32, out: &mut [u8], at: usize)
-    requires few { (at < 8) × (count < 8) }
-    requires source_has_them { skip + count ≤ length (bits source.now) }
-    requires out_has_room { at + count ≤ length (bits out.old) }
-    ensures copied { bits out.new ≡ with_run at (take count (drop skip (bits source.now))) (bits out.old) }
-{
-    let run = number(source, skip, count).unwrap_or(0);
-    write_number(out, at, count, u128::from(run));
-}
-
 // The eight bits behind the first `skip`, as a byte.
 fn byte_behind(bytes: &[u8], skip: usize) -> u8
     requires { skip + 8 ≤ length (bits bytes.now) }
@@ -23,45 +12,69 @@ fn byte_behind(bytes: &[u8], skip: usize) -> u8
     number(bytes, skip, 8).unwrap_or(0) as u8
 }
 
-// Copies bits over the first of `out`: whole bytes, then the bits that are left.
-#[tactic(auto, using(crate::proofs::Places::bits_length))]
-fn copy_to_front(source: &[u8], skip: usize, count: usize, out: &mut [u8])
-    requires near { skip < 8 }
-    requires source_has_them { skip + count ≤ length (bits source.now) }
-    requires out_has_room { count ≤ length (bits out.old) }
-    ensures copied { bits out.new ≡ with_run 0 (take count (drop skip (bits source.now))) (bits out.old) }
-{
-    let whole = count / 8;
-    // The index is a place in both slices: the bits of a byte come from two bytes of the source.
-    for i in 0..whole {
-        out[i] = byte_behind(&source[i..], skip);
-    }
-    copy_few(
-        &source[whole..],
-        skip,
-        (count % 8) as u32,
-        &mut out[whole..],
-        0,
-    );
+// The `count` bits behind the first `skip` of bytes that have them.
+#[derive(Clone, Copy)]
+struct Run<'a> {
+    bytes: &'a [u8],
+    skip: usize,
+    count: usize,
+    ghost inside: { skip + count ≤ length (bits bytes.now) },
 }
 
-// Copies bits to a place in the first byte of `out`: those up to the byte's end, then the rest.
-#[tactic(auto, using(crate::proofs::Places::bits_length))]
-fn copy_near(source: &[u8], skip: usize, count: usize, out: &mut [u8], at: usize)
-    requires near { (skip < 8) × (at < 8) }
-    requires source_has_them { skip + count ≤ length (bits source.now) }
-    requires out_has_room { at + count ≤ length (bits out.old) }
-    ensures copied { bits out.new ≡ with_run at (take count (drop skip (bits source.now))) (bits out.old) }
-{
-    let first = count.min((8 - at) % 8);
-    copy_few(source, skip, first as u32, out, at);
-    let skip = skip + first;
-    copy_to_front(
-        &source[skip / 8..],
-        skip % 8,
-        count - first,
-        &mut out[(at + first) / 8..],
-    );
+impl Run<'_> {
+    // Copies fewer than 8 bits, one after the other.
+    fn copy_few(&self, out: &mut [u8], at: usize)
+        requires few { (at < 8) × (self.now.count < 8) }
+        requires out_has_room { at + self.now.count ≤ length (bits out.old) }
+        ensures copied { bits out.new ≡ with_run at (take self.now.count (drop self.now.skip (bits self.now.bytes.now))) (bits out.old) }
+    {
+        let count = self.count as u32;
+        let run = number(self.bytes, self.skip, count).unwrap_or(0);
+        write_number(out, at, count, u128::from(run));
+    }
+
+    // Copies bits over the first of `out`: whole bytes, then the bits that are left.
+    #[tactic(auto, using(crate::proofs::Places::bits_length))]
+    fn copy_to_front(&self, out: &mut [u8])
+        requires near { self.now.skip < 8 }
+        requires out_has_room { self.now.count ≤ length (bits out.old) }
+        ensures copied { bits out.new ≡ with_run 0 (take self.now.count (drop self.now.skip (bits self.now.bytes.now))) (bits out.old) }
+    {
+        let whole = self.count / 8;
+        // The index is a place in both slices, as the bits of a byte come from two bytes of the source: numbering those of `out` would keep it.
+        for i in 0..whole {
+            out[i] = byte_behind(&self.bytes[i..], self.skip);
+        }
+        let left = Run {
+            bytes: &self.bytes[whole..],
+            skip: self.skip,
+            count: self.count % 8,
+        };
+        left.copy_few(&mut out[whole..], 0);
+    }
+
+    // Copies bits to a place in the first byte of `out`: those up to the byte's end, then the rest.
+    #[tactic(auto, using(crate::proofs::Places::bits_length))]
+    fn copy_near(&self, out: &mut [u8], at: usize)
+        requires near { (self.now.skip < 8) × (at < 8) }
+        requires out_has_room { at + self.now.count ≤ length (bits out.old) }
+        ensures copied { bits out.new ≡ with_run at (take self.now.count (drop self.now.skip (bits self.now.bytes.now))) (bits out.old) }
+    {
+        let first = self.count.min((8 - at) % 8);
+        let front = Run {
+            bytes: self.bytes,
+            skip: self.skip,
+            count: first,
+        };
+        front.copy_few(out, at);
+        let skip = self.skip + first;
+        let rest = Run {
+            bytes: &self.bytes[skip / 8..],
+            skip: skip % 8,
+            count: self.count - first,
+        };
+        rest.copy_to_front(&mut out[(at + first) / 8..]);
+    }
 }
 
 // Copies the `count` bits behind the first `skip` of the source over those behind the first `at` of `out`. Where either has too few bits, nothing
@@ -77,18 +90,14 @@ pub fn copy_bits(
     ensures accepts_where_both_have_the_bits { is_ok result ≡ both_have count (bits source.now) skip (bits out.old) at }
     ensures copies_those_bits_alone { bits out.new ≡ with_bits_of count (bits source.now) skip (bits out.old) at }
 {
-    if !hold_behind(source, skip, count) {
+    if !hold_behind(source, skip, count) || !hold_behind(out, at, count) {
         return Err(NoRoom);
     }
-    if !hold_behind(out, at, count) {
-        return Err(NoRoom);
-    }
-    copy_near(
-        &source[skip / 8..],
-        skip % 8,
+    let run = Run {
+        bytes: &source[skip / 8..],
+        skip: skip % 8,
         count,
-        &mut out[at / 8..],
-        at % 8,
-    );
+    };
+    run.copy_near(&mut out[at / 8..], at % 8);
     Ok(())
 }

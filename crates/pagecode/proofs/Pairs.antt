@@ -114,12 +114,15 @@ turn F w p x e =
     )
 
 -- the answer where the first k bits are pairs of groups
-pub answers_f : (w : List Bool) (k m : ℕ) (F : Field) → field_of m ≡ Some F → k % (2 * width F) ≡ 0 → k ≤ length w → Ok (f F (take k w)) ≡ f_of_first w k m
-answers_f w k m F is h l =
-    sym (ap (λ (b : Bool). cond b (Ok (f F (take k w))) (Err Length)) fits) ∙ ap (λ (o : Option Field). f_over o w k) (sym is)
+pub f_of_pairs : (F : Field) (w : List Bool) (k : ℕ) → k % (2 * width F) ≡ 0 → k ≤ length w → Ok (f F (take k w)) ≡ f_over (Some F) w k
+f_of_pairs F w k h l = sym (ap (λ (b : Bool). cond b (Ok (f F (take k w))) (Err Length)) fits)
   where
     fits : pairs_of_groups F w k ≡ true
     fits = ap (λ (b : Bool). cond b (leb k (length w)) false) (eq-eqb (k % (2 * width F)) 0 h) ∙ le-leb k (length w) l
+
+-- the same, of the width's field
+pub answers_f : (w : List Bool) (k m : ℕ) (F : Field) → field_of m ≡ Some F → k % (2 * width F) ≡ 0 → k ≤ length w → Ok (f F (take k w)) ≡ f_of_first w k m
+answers_f w k m F is h l = f_of_pairs F w k h l ∙ ap (λ (o : Option Field). f_over o w k) (sym is)
 
 -- the sum over the pairs of a, and then over those of b
 joined : (m : ℕ → ℕ → ℕ) (r p n : ℕ) (a b : List Bool) → length a ≡ double p * r

@@ -1,18 +1,17 @@
 // The parts of a message: a bit u and the bits behind it.
-ghost use Rattle.std.specs.Prelude.{◌≡◌, ◌+◌, ◌^◌, ◌<◌, ◌≤◌, ◌++◌, length, take, drop, if◌then◌else◌};
+ghost use Rattle.std.specs.Prelude.{◌≡◌, ◌^◌, ◌<◌, is_ok};
 ghost use Rattle.gf2.specs.Words.{bits, bits_of};
 ghost use Rattle.gf2.specs.Fields.{width};
 ghost use Rattle.pagecode.specs.InnerData.{each, data_fits, with_inner_data};
 
-use crate::nonlinear::Misfit;
-use gf2::bits::{is_set, put};
+use gf2::bits::{NoRoom, is_set, put};
 use gf2::field::Field;
 use gf2::runs::copy_bits;
 
 // Writes v_k, the `count` bits behind the message's first bit u with u added to the first of them, over the first bits of `out`.
 // Where the lengths do not fit, nothing changes.
-pub fn inner_data(message: &[u8], count: usize, out: &mut [u8]) -> Result<(), Misfit>
-    ensures accepts_lengths_that_fit { result ≡ if data_fits (bits message.now) count (bits out.old) then Ok tt else Err Misfit.Length }
+pub fn inner_data(message: &[u8], count: usize, out: &mut [u8]) -> Result<(), NoRoom>
+    ensures accepts_lengths_that_fit { is_ok result ≡ data_fits (bits message.now) count (bits out.old) }
     ensures writes_v_k_over_the_first_bits { bits out.new ≡ with_inner_data (bits message.now) count (bits out.old) }
 {
     copy_bits(message, 1, count, out, 0)?;

@@ -1,33 +1,23 @@
 // The nonlinear bits of a word: the sum of the products of neighbouring groups.
 ghost use Rattle.std.specs.Prelude.{◌≡◌, ◌+◌, ◌*◌, ◌^◌, ◌<◌, Some};
 ghost use Rattle.gf2.specs.Words.{bits};
-ghost use Rattle.gf2.specs.Fields.{width as width_of, product};
-ghost use Rattle.pagecode.specs.Groups.{f_of_first, product_behind};
+ghost use Rattle.gf2.specs.Fields.{width as width_of};
+ghost use Rattle.pagecode.specs.Groups.{f_over as f_of_bits, f_of_first, product_behind};
 
-use gf2::bits::{NoRoom, number};
+use gf2::bits::number;
 use gf2::field::{Field, NoSuchField};
-use std::error::Error;
-use std::fmt;
+use thiserror::Error;
 
-// Why a run of bits has no f, or a message no v_k.
-#[derive(Clone, Copy, PartialEq, Eq, Debug)]
+// Why a run of bits has no f.
+#[derive(Clone, Copy, PartialEq, Eq, Debug, Error)]
 pub enum Misfit {
     // No field of the five has elements of that many bits.
+    #[error("no field has elements of that many bits")]
     NoField,
-    // The run is no multiple of two groups, or bytes hold fewer bits than the call asks for.
+    // The run is no multiple of two groups, or the bytes end before it.
+    #[error("the number of bits does not fit")]
     Length,
 }
-
-impl fmt::Display for Misfit {
-    fn fmt<W: fmt::Write>(&self, f: &mut fmt::Formatter<W>) -> fmt::Result {
-        f.write_str(match self {
-            Self::NoField => "no field has elements of that many bits",
-            Self::Length => "the number of bits does not fit",
-        })
-    }
-}
-
-impl Error for Misfit {}
 
 impl From<NoSuchField> for Misfit {
     ghost use Rattle.pagecode.specs.declared.nonlinear.Misfit.TheVariants.{NoField};
@@ -36,17 +26,6 @@ impl From<NoSuchField> for Misfit {
 
     fn from(_: NoSuchField) -> Misfit {
         Misfit::NoField
-    }
-}
-
-// A buffer that is too short has the wrong length.
-impl From<NoRoom> for Misfit {
-    ghost use Rattle.pagecode.specs.declared.nonlinear.Misfit.TheVariants.{Length};
-
-    ghost from_gives = { λ _ misfit. misfit ≡ Length };
-
-    fn from(_: NoRoom) -> Misfit {
-        Misfit::Length
     }
 }
 
@@ -61,20 +40,26 @@ fn pair_product(field: Field, bytes: &[u8], skip: usize) -> Option<u16>
     Some(field.product(a, b))
 }
 
-// f of the first `count` bits, cut into groups of `width` bits: its bits are the low `width` bits of the answer, the first the highest.
-pub fn nonlinear_bits(bytes: &[u8], count: usize, width: u32) -> Result<u16, Misfit>
-    ensures f_of_the_first_bits_or_what_does_not_fit { result ≡ f_of_first (bits bytes.now) count width }
+// f of the first `count` bits, cut into groups that are elements of the field: its bits are the low ones of the answer, the first the highest.
+pub fn f_over(field: Field, bytes: &[u8], count: usize) -> Result<u16, Misfit>
+    ensures f_of_the_first_bits_or_no_such_length { result ≡ f_of_bits (Some field) (bits bytes.now) count }
 {
-    let field = Field::try_from(width)?;
-    let two_groups = 2 * width as usize;
+    let two_groups = 2 * field.width() as usize;
     if count % two_groups != 0 {
         return Err(Misfit::Length);
     }
     let mut sum = 0;
-    // A pair of groups lies at the place of a bit, which no slice lists.
+    // A try_fold over the range reads no plainer, since its closure would hold the `?` and wrap each sum in Ok.
     for pair in 0..count / two_groups {
         let product = pair_product(field, bytes, pair * two_groups).ok_or(Misfit::Length)?;
         sum = field.sum(sum, product);
     }
     Ok(sum)
+}
+
+// The same over the field whose elements have `width` bits.
+pub fn nonlinear_bits(bytes: &[u8], count: usize, width: u32) -> Result<u16, Misfit>
+    ensures f_of_the_first_bits_or_what_does_not_fit { result ≡ f_of_first (bits bytes.now) count width }
+{
+    f_over(Field::try_from(width)?, bytes, count)
 }

@@ -27,6 +27,6 @@ returns c =
     let v : c.in_ok-byte.byte.now ≡ get_or bs (i / 8) 0 = search rules in
     record {
       that_bit_or_none =
-          ap (λ (d : ℕ). Some (eqb d 1)) (c.digit.ensures.value_of_the_bit ∙ ap (λ (b : ℕ). b / 2 ^ (7 - i % 8) % 2) v)
-          ∙ ap Some (sym (byte_bit bs i h)) ∙ sym (bit_number_at (bits bs) i (inside_bytes bs i h)) ∙ ap (bit_number (bits bs)) e;
+          ap Some (c.has_bit.ensures.the_bit_there ∙ ap (λ (b : ℕ). eqb (b / 2 ^ (7 - i % 8) % 2) 1) v ∙ sym (byte_bit bs i h))
+          ∙ sym (bit_number_at (bits bs) i (inside_bytes bs i h)) ∙ ap (bit_number (bits bs)) e;
     }

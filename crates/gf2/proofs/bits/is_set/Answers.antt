@@ -1,4 +1,4 @@
-use Rattle.std.proofs.Common.{ℕ, ◌/◌, false, eqb, length, sym, ap, ◌∙◌}
+use Rattle.std.proofs.Common.{◌/◌, false, length, sym, ◌∙◌}
 use Rattle.std.proofs.lemmas.List.{get_or_past}
 use Rattle.std.proofs.lemmas.Bool.{le-ltb}
 use Rattle.gf2.specs.Words.{bits}
@@ -7,7 +7,7 @@ use Rattle.gf2.proofs.bits.is_set.Goals as goal
 
 pub returns-then-skip-bytes : goal.returns-then-skip-bytes
 returns-then-skip-bytes c = record {
-  the_bit_there = ap (λ (x : ℕ). eqb x 1) c.digit.ensures.value_of_the_bit ∙ sym (byte_bit c.args.bytes.now c.args.skip c.if-skip-bytes.true);
+  the_bit_there = c.has_bit.ensures.the_bit_there ∙ sym (byte_bit c.args.bytes.now c.args.skip c.if-skip-bytes.true);
 }
 
 pub returns-else-skip-bytes : goal.returns-else-skip-bytes

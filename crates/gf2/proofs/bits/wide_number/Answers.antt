@@ -1,8 +1,11 @@
-use Rattle.std.proofs.Common.{◌≡◌, ℕ, ◌+◌, ◌-◌, ◌*◌, ◌/◌, ◌%◌, ◌^◌, ◌<◌, ◌≤◌, Bool, true, false, cond, List, length, get_or, take, drop, Some, sym, ap, ◌∙◌, ap₂, pow-suc, add-one, arith, length-drop, pow_mono, refl}
-use Rattle.std.proofs.lemmas.List.{get_or-drop, take_more}
+use Rattle.std.proofs.Common.{rules, tests, zero, suc, fold, mod-eq_of_lt, ◌≡◌, ℕ, ◌+◌, ◌-◌, ◌*◌, ◌/◌, ◌%◌, ◌^◌, ◌<◌, ◌≤◌, Bool, true, false, cond, List, length, get_or, take, drop, Some, sym, ap, ◌∙◌, ap₂, arith, length-drop, pow_mono, refl}
+use Rattle.std.specs.List.{range_with_len}
+use Rattle.std.proofs.lemmas.Iterator.{YieldsList-from_range}
+use Rattle.std.proofs.lemmas.Iterator.Consumers.{fold_from_yields_List}
+use Rattle.std.proofs.lemmas.List.{get_or-drop, take_more, length-take-le}
 use mir.Val.{bool_byte}
 use Rattle.gf2.specs.Words.{bits, number}
-use Rattle.gf2.proofs.Sums.{number_push}
+use Rattle.gf2.proofs.Sums.{number_push, number_lt}
 use Rattle.gf2.proofs.Places.{bits_length, bits_from}
 use Rattle.gf2.proofs.Windows.{no_number, that_number}
 use Rattle.gf2.proofs.bits.wide_number.Goals as goal
@@ -18,49 +21,36 @@ as_number : (b : Bool) → bool_byte b ≡ cond b 1 0
 as_number true = refl
 as_number false = refl
 
-low : (b : Bool) → cond b 1 0 < 2
-low true = omega arith
-low false = omega arith
-
-double : (v i : ℕ) (b : Bool) → v < 2 ^ i → v * 2 + cond b 1 0 < 2 ^ (i + 1)
-double v i b h = omega (arith, low b, ap (λ (j : ℕ). 2 ^ j) (add-one i), pow-suc 2 i)
+-- the bits from a place on, one after the other
+read_on : (w : List Bool) (s n i : ℕ) → s + (i + n) ≤ length w → i + n ≤ 128
+    → fold (λ (v p : ℕ). v * 2 % 2 ^ 128 + bool_byte (get_or w (s + p) false)) (number (take i (drop s w))) (range_with_len i n) ≡ number (take (i + n) (drop s w))
+read_on w s zero i h few = ap (λ (j : ℕ). number (take j (drop s w))) (let e : i ≡ i + 0 = omega arith in e)
+read_on w s (suc n) i h few =
+    let small = number_lt (take i (drop s w)) in
+    let size : 2 ^ length (take i (drop s w)) ≤ 2 ^ 127 = pow_mono {i = length (take i (drop s w))} {j = 127} (omega (arith, length-take-le i (drop s w) (omega (arith, length-drop s w)))) in
+    let fits : number (take i (drop s w)) * 2 < 2 ^ 128 = omega arith in
+    ap (λ (v : ℕ). fold (λ (v p : ℕ). v * 2 % 2 ^ 128 + bool_byte (get_or w (s + p) false)) v (range_with_len (i + 1) n))
+    (ap₂ ◌+◌ (mod-eq_of_lt fits) (as_number (get_or w (s + i) false)) ∙ push w s i (omega arith))
+    ∙ read_on w s n (i + 1) (omega arith) (omega arith) ∙ ap (λ (j : ℕ). number (take j (drop s w))) (let e : i + 1 + n ≡ i + suc n = omega arith in e)
 
 pub returns-then-not-hold_behind : goal.returns-then-not-hold_behind
 returns-then-not-hold_behind c =
     let bs = c.args.bytes.now in
     record { number_of_those_bits = no_number 128 (bits bs) c.args.skip c.args.count (omega (arith, bits_length bs)) }
 
-pub overflow_mul-value : goal.overflow_mul-value
-overflow_mul-value c =
-    let h : 2 ^ c.loop-place.place ≤ 2 ^ 127 = pow_mono {i = c.loop-place.place} {j = 127} (omega arith) in
-    record { fits = omega (arith, c.loop-place.invariant.1) }
-
-pub overflow_add-value : goal.overflow_add-value
-overflow_add-value c =
-    let h : 2 ^ c.loop-place.place ≤ 2 ^ 127 = pow_mono {i = c.loop-place.place} {j = 127} (omega arith) in
-    record { fits = omega (arith, c.loop-place.invariant.1, c.from.ensures ∙ as_number c.is_set.result, low c.is_set.result) }
-
-pub loop-place-preserved : goal.loop-place-preserved
-loop-place-preserved c =
-    let bs = c.args.bytes.now in
-    let w = bits bs in
-    let s = c.args.skip in
-    let i = c.loop-place.place in
-    let bit : c.is_set.result ≡ get_or w (s + i) false =
-    c.is_set.ensures.the_bit_there
-    ∙ sym (get_or-drop (s % 8) (bits (take (length bs - s / 8) (drop (s / 8) bs))) i false)
-    ∙ ap (λ (v : List Bool). get_or v i false) (bits_from bs s (omega arith)) ∙ get_or-drop s w i false in (
-      ap₂ (λ (v b : ℕ). v * 2 + b) c.loop-place.invariant.0 (c.from.ensures ∙ as_number c.is_set.result ∙ ap (λ (b : Bool). cond b 1 0) bit)
-          ∙ push w s i (omega (arith, bits_length bs)),
-      omega (arith, double c.loop-place.value i c.is_set.result c.loop-place.invariant.1, c.from.ensures ∙ as_number c.is_set.result),
-    )
-
 pub returns : goal.returns
 returns c =
     let bs = c.args.bytes.now in
+    let s = c.args.skip in
     let k = c.args.count in
+    let slice = take (length bs - s / 8) (drop (s / 8) bs) in
+    let w = bits slice in
+    let whole : drop (s % 8) w ≡ drop s (bits bs) = bits_from bs s (omega arith) in
+    let r : c.fold.result ≡ number (take k (drop (s % 8) w)) =
+    fold_from_yields_List _ (λ (v p : ℕ). v * 2 % 2 ^ 128 + bool_byte (get_or w (s % 8 + p) false)) 0 _ c.fold.ensures.ran (YieldsList-from_range 0 k k (cc) (omega arith)) (λ a x b q h. search (rules, tests))
+    ∙ read_on w (s % 8) k 0 (omega (arith, bits_length slice, length-take-le (length bs - s / 8) (drop (s / 8) bs) (omega (arith, length-drop (s / 8) bs)), length-drop (s / 8) bs)) (omega arith)
+    ∙ ap (λ (j : ℕ). number (take j (drop (s % 8) w))) (let e : 0 + k ≡ k = omega arith in e) in
     record {
       number_of_those_bits =
-          ap Some (c.loop-place.invariant.0 ∙ ap (λ (i : ℕ). number (take i (drop c.args.skip (bits bs)))) (let e : c.loop-place.place ≡ k = omega arith in e))
-          ∙ that_number 128 (bits bs) c.args.skip k (omega arith) (omega arith) (omega (arith, bits_length bs));
+          ap Some (r ∙ ap (λ (v : List Bool). number (take k v)) whole) ∙ that_number 128 (bits bs) s k (omega arith) (omega arith) (omega (arith, bits_length bs));
     }

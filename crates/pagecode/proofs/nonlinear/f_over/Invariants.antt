@@ -3,7 +3,7 @@ use Rattle.gf2.specs.Words.{bits}
 use Rattle.gf2.specs.Fields.{width, product}
 use Rattle.pagecode.specs.Groups.{groups, sum_of_products}
 use Rattle.pagecode.proofs.Pairs.{double}
-use Rattle.pagecode.proofs.nonlinear.nonlinear_bits.Given as goal
+use Rattle.pagecode.proofs.nonlinear.f_over.Given as goal
 
 abbrev pub invariant-loop-pair : goal.invariant-loop-pair
 invariant-loop-pair l =

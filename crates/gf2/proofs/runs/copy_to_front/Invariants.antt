@@ -1,6 +1,0 @@
-use Rattle.std.proofs.Common.{◌≡◌, ◌*◌, take, drop}
-use Rattle.gf2.specs.Words.{bits, with_run}
-use Rattle.gf2.proofs.runs.copy_to_front.Given as goal
-
-abbrev pub invariant-loop-i : goal.invariant-loop-i
-invariant-loop-i l = bits l.out ≡ with_run 0 (take (l.i * 8) (drop l.skip (bits l.source))) (bits l.initial.out)
