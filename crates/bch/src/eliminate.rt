@@ -10,10 +10,10 @@ use arrayvec::ArrayVec;
 use gf2::field::Field;
 use std::array;
 
-// The coefficients of a polynomial, the lowest first.
+// The coefficients of a polynomial, the lowest first. A code corrects at most 5 bits, so six serve, and there is no heap.
 pub(crate) type Polynomial = [u16; 6];
 
-// A sequence of elements of a field: its members 0 to 10.
+// A sequence of elements of a field: its members 0 to 10, which are as many as equations over six coefficients reach.
 #[derive(Clone, Copy)]
 pub(crate) struct Sequence {
     pub field: Field,
@@ -91,7 +91,7 @@ impl Sequence {
     {
         let mut polys = ArrayVec::from(UNITS);
         polys.truncate(t + 1);
-        // The equations have numbers, which no slice lists.
+        // Each equation changes the polynomials, so this is no chain.
         for i in 1..t + 1 {
             let equation = Equation { sequence: *self, i };
             equation.meet(&mut polys);

@@ -32,7 +32,7 @@ impl Bch {
         for byte in &bytes[..count / 8] {
             register = self.next_byte(table, register, *byte);
         }
-        // The bits that are left have places, which no slice lists.
+        // A step has two parts, so a fold over the places that are left reads no plainer.
         for skip in count / 8 * 8..count {
             register = generator.times_x(register);
             if is_set(bytes, skip) {

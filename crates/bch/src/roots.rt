@@ -91,7 +91,7 @@ impl Bch {
     {
         let mut first = Terms::at_one(self.field(), &left.polys[0]);
         let mut flips = 0;
-        // From the last bit on, whose point is 1; bits have places, which no slice lists.
+        // From the last bit on, whose point is 1. The word changes on the way, so this is no chain.
         for skip in (0..self.word_bits()).rev() {
             if left.vanish(&first) {
                 put(bytes, skip, !is_set(bytes, skip));
