@@ -1,9 +1,9 @@
 -- The labels of the set bits, added in turn as the bits are gone through.
-use Rattle.std.proofs.Common.{◌≡◌, ℕ, zero, suc, ◌+◌, Bool, true, false, cond, List, [], ◌∷◌, get_or, drop, sym, refl, ap, ◌∙◌, add-one}
+use Rattle.std.proofs.Common.{◌≡◌, ℕ, zero, suc, ◌+◌, Bool, true, false, cond, not, List, [], ◌∷◌, get_or, drop, sym, refl, ap, ◌∙◌, add-one}
 use lib.Bits.{bit_xor, xor_assoc, xor_zero_l, xor_zero_r}
-use Rattle.std.specs.List.{fold, filter, enumerate_from}
-use Rattle.position.specs.Labels.{label_sum, no_powers_of_two}
-use Rattle.position.specs.Short.{data_labels, added_in_turn}
+use Rattle.std.specs.List.{fold, filter, enumerate_from, range_with_len}
+use Rattle.position.specs.Labels.{label_sum, is_power_of_two, no_powers_of_two}
+use Rattle.position.specs.Short.{data_labels}
 
 -- the first bit that is left is the one at p, or none is
 next_bit : (a : ℕ) (ls : List ℕ) (w : List Bool) (p : ℕ)
@@ -39,6 +39,9 @@ module _ (w : List Bool) where
           ap (λ (b : Bool). fold (λ (x : ℕ) (q : ℕ × ℕ). bit_xor x q.1) s (cond b ((p, a) ∷ filter (λ (q : ℕ × ℕ). get_or w q.0 false) (enumerate_from (p + 1) ls)) (filter (λ (q : ℕ × ℕ). get_or w q.0 false) (enumerate_from (p + 1) ls)))) e
           ∙ rest s ∙ whole false e
 
-pub added_is : (w : List Bool) → added_in_turn w ≡ label_sum data_labels w
+-- the numbers from 3 to 554 that are no powers of two are the labels of the places from 0 on
+pub added_is : (w : List Bool)
+    → fold (λ (x : ℕ) (q : ℕ × ℕ). bit_xor x q.1) 0 (filter (λ (q : ℕ × ℕ). get_or w q.0 false) (enumerate_from 0 (filter (λ m. not (is_power_of_two m)) (range_with_len 3 552))))
+    ≡ label_sum data_labels w
 unfolding from data_labels no_powers_of_two
 added_is w = from_is w data_labels 0 0 ∙ xor_zero_l (label_sum data_labels w)

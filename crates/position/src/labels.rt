@@ -2,13 +2,13 @@
 ghost use Rattle.std.specs.Prelude.{◌≡◌, length, take, if◌then◌else◌, Some, None, nat_le};
 ghost use Rattle.gf2.specs.Words.{bits};
 ghost use Rattle.position.specs.Labels.{label_sum, PlaceOf};
-ghost use Rattle.position.specs.Short.{short_labels, added_in_turn};
+ghost use Rattle.position.specs.Short.{data_labels, short_labels};
 
 use gf2::bits::{is_set, number};
 
 // The labels of the set data bits, added.
 pub(crate) fn data_sum(word: &[u8]) -> u16
-    ensures sum_over_the_data_bits { result ≡ added_in_turn (bits word.now) }
+    ensures sum_over_the_data_bits { result ≡ label_sum data_labels (bits word.now) }
 {
     (3u16..555)
         .filter(|label| !label.is_power_of_two())

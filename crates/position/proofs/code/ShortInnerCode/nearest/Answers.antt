@@ -1,12 +1,12 @@
-use Rattle.std.proofs.Common.{◌≡◌, ℕ, Bool, false, not, leb, ◌≢◌, List, length, get_or, take, set, Option, sym, refl, ap, ◌∙◌, subst, arith}
+use Rattle.std.proofs.Common.{◌≡◌, ℕ, Bool, false, not, leb, ◌≢◌, List, length, get_or, take, set, Option, sym, refl, ap, ◌∙◌, subst}
 use Rattle.std.specs.List.{AllByRecursion as All}
-use Rattle.std.proofs.lemmas.Bool.{leb-true, leb-false}
+use Rattle.std.proofs.lemmas.Bool.{leb-true}
 use Rattle.gf2.specs.Words.{bits}
 use Rattle.inner.specs.Nearest.{Nearest, Corrected}
 use Rattle.position.specs.Labels.{label_sum}
 use Rattle.position.specs.Short.{data_labels, short_labels, ShortCodeword}
 use Rattle.position.proofs.Correcting.{right_already, one_wrong, none_near}
-use Rattle.position.proofs.Words.{short_labels_length, if_some, if_none}
+use Rattle.position.proofs.Words.{short_labels_length, if_some}
 use Rattle.position.proofs.code.ShortInnerCode.nearest.Goals as goal
 
 pub returns-then-sum-eq0 : goal.returns-then-sum-eq0
