@@ -23,6 +23,11 @@ counted w a (suc n) e =
 pub counted_bytes : (bs : List ℕ) (a : ℕ) → count_by (λ (i : ℕ). get_or (bits bs) i false) (range_with_len a (8 * length bs - a)) ≡ weight (drop a (bits bs))
 counted_bytes bs a = counted (bits bs) a (8 * length bs - a) (omega (arith, bits_length bs))
 
-pub counted_at_most : (bs : List ℕ) (a : ℕ) → count_by (λ (i : ℕ). get_or (bits bs) i false) (range_with_len a (8 * length bs - a)) ≤ 8 * length bs
-counted_at_most bs a =
-    omega (arith, count_by-le-length (λ (i : ℕ). get_or (bits bs) i false) (range_with_len a (8 * length bs - a)), length-range_with_len a (8 * length bs - a))
+pub at_most : (bs : List ℕ) (a : ℕ) → weight (drop a (bits bs)) ≤ 8 * length bs
+at_most bs a =
+    omega (
+      arith,
+      counted_bytes bs a,
+      count_by-le-length (λ (i : ℕ). get_or (bits bs) i false) (range_with_len a (8 * length bs - a)),
+      length-range_with_len a (8 * length bs - a),
+    )

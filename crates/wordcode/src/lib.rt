@@ -1,6 +1,7 @@
 // The page code: words with check bits that are no linear function of the message.
 #![tactic(auto)]
 
+mod last;
 pub mod laws;
 mod lengths;
 pub mod page;
@@ -8,5 +9,4 @@ pub mod refusal;
 mod runs;
 mod settle;
 pub mod sizes;
-mod tail;
 pub mod word;

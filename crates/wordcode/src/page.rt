@@ -1,17 +1,16 @@
 // Pages: data bytes as the codeword of a message, with a mark behind it.
-ghost use Rattle.std.specs.Prelude.{◌≡◌, ◌≤◌, length, take, drop, if◌then◌else◌, Ok, Err, nat_eq};
+ghost use Rattle.std.specs.Prelude.{◌≡◌, ◌≤◌, length, take, drop};
 ghost use Rattle.gf2.specs.Words.{bits};
-ghost use Rattle.inner.specs.Pages.{bytes_for};
 ghost use Rattle.wordcode.specs.Refusals.{told};
 ghost use Rattle.wordcode.specs.Bytes.{padded};
 ghost use Rattle.wordcode.specs.Page.{page_of, page_checked, PageMade, marked, PageRead};
 
 use crate::lengths::check_lengths;
 use crate::refusal::Refusal;
-use crate::runs::{Buffer, copy_and_clear, set_bits_behind};
+use crate::runs::{CLEAR, copy_and_clear, set_bits_behind};
 use crate::sizes::{data_bytes, message_bytes, page_bytes, word_bits, word_bytes};
 use crate::word::{Reading, encode, read};
-use gf2::bits::put_number;
+use gf2::runs::copy_bits;
 use inner::code::InnerCode;
 
 // What a page held: nothing, by its mark, or a word that was read.
@@ -27,7 +26,7 @@ pub fn encode_page<C: InnerCode>(bytes: &[u8], page: &mut [u8]) -> Result<(), Re
     ensures writes_the_codeword_and_the_mark_or_nothing { PageMade (told result) (page_of C.DATA C.CHECKS C.ERRORS C.FIELD C.checks bytes.now) page.old page.new }
 {
     check_lengths(bytes, data_bytes::<C>(), page, page_bytes::<C>())?;
-    let mut message: Buffer = [0; 2048];
+    let mut message = CLEAR;
     copy_and_clear(bytes, &mut message);
     // The word's spare bits and what follows them are the mark.
     page.fill(0);
@@ -48,12 +47,12 @@ fn is_marked(page: &[u8], count: usize) -> bool
 // Copies the first `count` bits and puts zeros behind them.
 fn first_bits(page: &[u8], count: usize, word: &mut [u8])
     requires page_has_them { count ≤ length (bits page.now) }
-    requires room { (bytes_for count ≤ length word.old) × (length word.old ≤ 2048) }
+    requires room { count ≤ length (bits word.old) }
     ensures those_bits_then_zeros { bits word.new ≡ padded (length (bits word.old)) (take count (bits page.now)) }
 {
-    let whole = (count + 7) / 8;
-    copy_and_clear(&page[..whole], word);
-    let _ = put_number(word, count, (8 * whole - count) as u32, 0);
+    word.fill(0);
+    // There is room, as it is asked above.
+    let _ = copy_bits(page, 0, count, word, 0);
 }
 
 // The data bytes of a page, as its mark says: of a word read by the rules, or all FF. Refused: the bytes stay as they are.
@@ -67,9 +66,9 @@ pub fn read_page<C: InnerCode>(page: &[u8], bytes: &mut [u8]) -> Result<PageRead
         bytes.fill(0xFF);
         return Ok(PageReading::Blank);
     }
-    let mut word: Buffer = [0; 2048];
+    let mut word = CLEAR;
     first_bits(page, bits, &mut word);
-    let mut message: Buffer = [0; 2048];
+    let mut message = CLEAR;
     let reading = read::<C>(
         &word[..word_bytes::<C>()],
         &mut message[..message_bytes::<C>()],

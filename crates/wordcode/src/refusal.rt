@@ -2,30 +2,20 @@
 ghost use Rattle.std.specs.Prelude.{◌≡◌};
 ghost use Rattle.wordcode.specs.Refusals.{number_of};
 
-use std::error::Error;
-use std::fmt;
+use thiserror::Error;
 
-#[derive(Clone, Copy, PartialEq, Eq, Debug)]
+#[derive(Clone, Copy, PartialEq, Eq, Debug, Error)]
 pub enum Refusal {
     // The bytes handed over, or the buffer to fill, are not as many as hold the bits.
+    #[error("the bytes are not as many as hold the bits")]
     WrongLength,
     // A spare bit behind the last one is set.
+    #[error("a spare bit is set")]
     SpareBits,
     // No rule of reading gives a codeword.
+    #[error("no codeword is near enough")]
     Unreadable,
 }
-
-impl fmt::Display for Refusal {
-    fn fmt<W: fmt::Write>(&self, f: &mut fmt::Formatter<W>) -> fmt::Result {
-        f.write_str(match self {
-            Refusal::WrongLength => "the bytes are not as many as hold the bits",
-            Refusal::SpareBits => "a spare bit is set",
-            Refusal::Unreadable => "no codeword is near enough",
-        })
-    }
-}
-
-impl Error for Refusal {}
 
 // The number that callers are told.
 impl From<Refusal> for u8 {

@@ -1,17 +1,18 @@
 // Bytes and runs of bits within them.
-ghost use Rattle.std.specs.Prelude.{◌≡◌, ◌-◌, ◌*◌, ◌≤◌, ◌++◌, false, length, replicate, slice_index_or};
-ghost use Rattle.std.specs.List.{count_by, range_with_len};
-ghost use Rattle.gf2.specs.Words.{bits};
+ghost use Rattle.std.specs.Prelude.{◌≡◌, ◌-◌, ◌*◌, ◌≤◌, ◌++◌, length, drop, replicate};
+ghost use Rattle.gf2.specs.Words.{bits, weight};
 
 use gf2::bits::is_set;
 
 // There is no heap, so what is put together stands in a buffer that holds the longest page, whatever the setting.
 pub(crate) type Buffer = [u8; 2048];
 
-// The number of set bits behind the first `count`: the weight of what is behind them, counted place by place.
+pub(crate) const CLEAR: Buffer = [0; 2048];
+
+// The number of set bits behind the first `count`. Who calls this passes on that the bytes are few, so that their bits have a number.
 pub(crate) fn set_bits_behind(bytes: &[u8], count: usize) -> usize
     requires small { length bytes.now ≤ 2048 }
-    ensures set_places_behind { result ≡ count_by (λ place. slice_index_or (bits bytes.now) place false) (range_with_len count (8 * length bytes.now - count)) }
+    ensures set_bits_behind { result ≡ weight (drop count (bits bytes.now)) }
 {
     (count..8 * bytes.len())
         .filter(|place| is_set(bytes, *place))

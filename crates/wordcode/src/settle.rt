@@ -4,8 +4,8 @@ ghost use Rattle.gf2.specs.Words.{bits};
 ghost use Rattle.inner.specs.Pages.{word_bits as word_bits_of};
 ghost use Rattle.wordcode.specs.Settling.{chosen, chosen_by, last_bits_apart};
 
+use crate::last::{bits_apart, last_bits};
 use crate::runs::Buffer;
-use crate::tail::{bits_apart, tail};
 use crate::word::Reading;
 use gf2::bits::is_set;
 use inner::code::InnerCode;
@@ -74,7 +74,7 @@ pub(crate) fn settle<C: InnerCode>(
 {
     let r2 = C::TAIL;
     let first = is_set(word, 0);
-    let last = tail::<C>(inner, first);
+    let last = last_bits::<C>(inner, first);
     let apart = bits_apart(word, 1 + (C::DATA + C::CHECKS), C::FIELD, last);
     let candidates = Candidates {
         first,

@@ -8,7 +8,7 @@ use inner::code::InnerCode;
 pub fn message_bytes<C: InnerCode>() -> usize
     ensures hold_a_message { result ≡ bytes_for (C.DATA + 1) }
 {
-    (C::DATA + 8) / 8
+    (C::DATA + 1).div_ceil(8)
 }
 
 pub(crate) fn word_bits<C: InnerCode>() -> usize
@@ -20,7 +20,7 @@ pub(crate) fn word_bits<C: InnerCode>() -> usize
 pub fn word_bytes<C: InnerCode>() -> usize
     ensures hold_a_word { result ≡ bytes_for (word_bits_of C.DATA C.CHECKS C.TAIL) }
 {
-    (word_bits::<C>() + 7) / 8
+    word_bits::<C>().div_ceil(8)
 }
 
 // The whole bytes that a message holds, which are the data of a page.
@@ -34,5 +34,5 @@ pub fn data_bytes<C: InnerCode>() -> usize
 pub fn page_bytes<C: InnerCode>() -> usize
     ensures hold_a_word_and_its_mark { result ≡ page_bytes_of C.DATA C.CHECKS C.ERRORS C.TAIL }
 {
-    (word_bits::<C>() + 2 * C::ERRORS + 8) / 8
+    (word_bits::<C>() + 2 * C::ERRORS + 1).div_ceil(8)
 }

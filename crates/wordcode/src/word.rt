@@ -9,12 +9,12 @@ ghost use Rattle.wordcode.specs.Bytes.{checked, spare_clear, padded};
 ghost use Rattle.wordcode.specs.Settling.{message_of};
 ghost use Rattle.wordcode.specs.Encoding.{Written, ReadByTheRules};
 
+use crate::last::last_bits;
 use crate::lengths::check_lengths;
 use crate::refusal::Refusal;
-use crate::runs::{Buffer, copy_and_clear, set_bits_behind};
+use crate::runs::{Buffer, CLEAR, copy_and_clear, set_bits_behind};
 use crate::settle::{settle, turned_distance};
 use crate::sizes::{message_bytes, word_bits, word_bytes};
-use crate::tail::tail;
 use gf2::bits::{is_set, put, put_number};
 use gf2::runs::copy_bits;
 use inner::code::InnerCode;
@@ -48,6 +48,7 @@ fn lay_out<C: InnerCode>(message: &[u8], inner: &Buffer, last: u16, word: &mut [
     let k1 = C::DATA;
     let r1 = C::CHECKS;
     copy_and_clear(message, word);
+    // There is room for both.
     let _ = copy_bits(inner, k1, r1, word, k1 + 1);
     let _ = put_number(word, k1 + 1 + r1, C::TAIL as u32, u128::from(last));
 }
@@ -59,6 +60,7 @@ fn write_message<C: InnerCode>(inner: &Buffer, u: bool, message: &mut [u8])
 {
     message.fill(0);
     put(message, 0, u);
+    // There is room for a message.
     let _ = copy_bits(inner, 0, C::DATA, message, 1);
     put(message, 1, is_set(inner, 0) != u);
 }
@@ -70,10 +72,11 @@ pub fn encode<C: InnerCode>(message: &[u8], word: &mut [u8]) -> Result<(), Refus
 {
     check_lengths(message, message_bytes::<C>(), word, word_bytes::<C>())?;
     check_spare_bits(message, C::DATA + 1)?;
-    let mut inner: Buffer = [0; 2048];
+    // The lengths were tested and a buffer has room, so none of these refuses.
+    let mut inner = CLEAR;
     let _ = inner_data(message, C::DATA, &mut inner);
     let _ = C::complete(&mut inner);
-    let last = tail::<C>(&inner, is_set(message, 0));
+    let last = last_bits::<C>(&inner, is_set(message, 0));
     lay_out::<C>(message, &inner, last, word);
     Ok(())
 }
@@ -84,7 +87,8 @@ pub fn read<C: InnerCode>(word: &[u8], message: &mut [u8]) -> Result<Reading, Re
 {
     check_lengths(word, word_bytes::<C>(), message, message_bytes::<C>())?;
     check_spare_bits(word, word_bits::<C>())?;
-    let mut inner: Buffer = [0; 2048];
+    // The lengths were tested and a buffer has room, so this does not refuse.
+    let mut inner = CLEAR;
     let _ = inner_data(word, C::DATA + C::CHECKS, &mut inner);
     let before = is_set(&inner, 0);
     let flips = C::nearest(&mut inner).ok_or(Refusal::Unreadable)?;

@@ -1,5 +1,6 @@
-use Rattle.std.proofs.Common.{Err, ap, ◌∙◌, arith}
+use Rattle.std.proofs.Common.{ℕ, replicate, Err, ap, ◌∙◌, arith}
 use Rattle.std.proofs.lemmas.Result.{err_from_is_err_and}
+use lib.ListN.{length-replicate}
 use Rattle.gf2.proofs.Places.{bits_length}
 use Rattle.wordcode.proofs.Passed.{lengths_pass}
 use Rattle.wordcode.proofs.PagesRead.{refused, given}
@@ -16,6 +17,10 @@ is_marked-requires g c =
         omega (arith, sized, g.C.InnerCode.setting.page_fits),
       );
     }
+
+pub first_bits-requires-clause-room : goal.first_bits-requires-clause-room
+first_bits-requires-clause-room g c =
+    omega (arith, c.word_bits-bits.ensures.bits_of_a_word, g.C.InnerCode.setting.page_fits, bits_length (replicate 2048 0), length-replicate {A = ℕ} 2048 0)
 
 pub returns-in_err-reading : goal.returns-in_err-reading
 returns-in_err-reading g c =

@@ -38,15 +38,17 @@ returns g c =
     length-take-le (width F) (drop (1 + (C.DATA + C.CHECKS)) W)
     (omega (arith, length-drop (1 + (C.DATA + C.CHECKS)) W, c.requires.word_has_its_bits, C.setting.width_of_a_field))
     ∙ sym (bits_of_length (width F) (f F (take C.DATA V))) in
-    let last : bits_of (width F) c.tail-last.result ≡ each u b =
-    c.tail-last.ensures.f_with_u_added ∙ ap (λ (y : Bool). each y b) c.is_set-first.ensures.the_bit_there in
+    let last : bits_of (width F) c.last_bits-last.result ≡ each u b =
+    c.last_bits-last.ensures.f_with_u_added ∙ ap (λ (y : Bool). each y b) c.is_set-first.ensures.the_bit_there in
     let apart : c.bits_apart-apart.result ≡ last_bits_apart C.DATA C.CHECKS F W V =
-    c.bits_apart-apart.ensures.differing_bits
-    ∙ apart_by_values F c.FIELD.result c.DATA.result C.DATA c.CHECKS.result C.CHECKS W c.tail-last.result c.FIELD.ensures c.DATA.ensures c.CHECKS.ensures
-    ∙ counted_across u x b (bits_of (width F) c.tail-last.result) long last in
+    (let values : c.bits_apart-apart.result ≡ weight (add (take (width c.FIELD.result) (drop (1 + (c.DATA.result + c.CHECKS.result)) W)) (bits_of (width c.FIELD.result) c.last_bits-last.result)) =
+    c.bits_apart-apart.ensures.differing_bits in values)
+    ∙ apart_by_values F c.FIELD.result c.DATA.result C.DATA c.CHECKS.result C.CHECKS W c.last_bits-last.result c.FIELD.ensures c.DATA.ensures c.CHECKS.ensures
+    ∙ counted_across u x b (bits_of (width F) c.last_bits-last.result) long last in
     record {
       by_the_rules =
-          c.choose.ensures.by_the_rules
+          (let choice : c.choose.result ≡ chosen c.ERRORS.result c.is_set-first.result (c.args.flips + c.bits_apart-apart.result)
+          (1 + c.args.turned + c.saturating_sub.result) (eqb c.bits_apart-apart.result c.TAIL-r2.result) = c.choose.ensures.by_the_rules in choice)
           ∙ by_values c.ERRORS.result C.ERRORS c.TAIL-r2.result C.TAIL c.bits_apart-apart.result (last_bits_apart C.DATA C.CHECKS F W V) c.saturating_sub.result
           c.args.flips c.args.turned c.is_set-first.result u c.ERRORS.ensures c.TAIL-r2.ensures c.is_set-first.ensures.the_bit_there apart c.saturating_sub.ensures;
     }

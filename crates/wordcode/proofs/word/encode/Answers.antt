@@ -40,11 +40,11 @@ returns-clause-writes_the_codeword_or_nothing g c =
     let made : V ≡ with_checks K C.CHECKS C.checks (with_inner_data M K O) =
     c.complete.ensures.check_bits_follow_the_data
     ∙ ap (with_checks K C.CHECKS C.checks) (c.inner_data.ensures.writes_v_k_over_the_first_bits ∙ ap (λ (i : ℕ). with_inner_data M i O) k) in
-    let L = bits_of (width F) c.tail-last.result in
+    let L = bits_of (width F) c.last_bits-last.result in
     let last : L ≡ each (get_or M 0 false) (f_bits F (take K V)) =
-    c.tail-last.ensures.f_with_u_added ∙ ap (λ (u : Bool). each u (f_bits F (take K V))) c.is_set.ensures.the_bit_there in
+    c.last_bits-last.ensures.f_with_u_added ∙ ap (λ (u : Bool). each u (f_bits F (take K V))) c.is_set.ensures.the_bit_there in
     c.lay_out.ensures.message_checks_and_last_bits
     ∙ ap (padded (length (bits W)))
-    (ap (λ (i : ℕ). (take (K + 1) M ++ take C.CHECKS (drop K V)) ++ bits_of i c.tail-last.result) S.width_of_a_field
+    (ap (λ (i : ℕ). (take (K + 1) M ++ take C.CHECKS (drop K V)) ++ bits_of i c.last_bits-last.result) S.width_of_a_field
     ∙ encoded C.laws F M O V L (omega (arith, S.a_byte_at_least)) (omega (arith, em, bits_length c.args.message.now))
     (omega (arith, bits_length (replicate 2048 0), S.page_fits)) made last)

@@ -6,7 +6,7 @@ use Rattle.gf2.specs.Words.{bits, number, number_behind}
 use Rattle.gf2.specs.Fields.{width}
 use Rattle.gf2.proofs.Five.{widths}
 use Rattle.wordcode.proofs.LastBits.{number_there, counted}
-use Rattle.wordcode.proofs.tail.bits_apart.Goals as goal
+use Rattle.wordcode.proofs.last.bits_apart.Goals as goal
 
 at_most_16 : (a b : ℕ) → a < 65536 → b < 65536 → ones (bit_xor a b) ≤ 16
 at_most_16 a b ha hb = ones-le 16 (bit_xor a b) (xor_lt 16 a b ha hb)
@@ -22,7 +22,7 @@ returns c =
     ∙ number_there W s (width F) (omega arith) (omega (arith, (widths F).1)) c.requires.word_has_them in
     record {
       differing_bits =
-          ap (λ (n : ℕ). ones (bit_xor n c.args.tail)) value
-          ∙ counted (width F) x c.args.tail (length-take-le (width F) (drop s W) (omega (arith, length-drop s W, c.requires.word_has_them))) c.requires.an_element;
-      no_more_than_16 = at_most_16 c.unwrap_or-there.result c.args.tail c.unwrap_or-there.type_inv c.ranges.tail.fits;
+          ap (λ (n : ℕ). ones (bit_xor n c.args.last)) value
+          ∙ counted (width F) x c.args.last (length-take-le (width F) (drop s W) (omega (arith, length-drop s W, c.requires.word_has_them))) c.requires.an_element;
+      no_more_than_16 = at_most_16 c.unwrap_or-there.result c.args.last c.unwrap_or-there.type_inv c.ranges.last.fits;
     }
