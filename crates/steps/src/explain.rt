@@ -9,7 +9,7 @@ ghost use Rattle.steps.specs.Shown.{Explained, HasSteps, group_at, product_line,
 use crate::show::{Bits, Element, character};
 use gf2::field::Field;
 use pagecode::message::with_added;
-use pagecode::nonlinear::nonlinear_bits;
+use pagecode::nonlinear::f_over;
 use std::fmt;
 use std::marker::Model;
 
@@ -36,7 +36,7 @@ impl<'a> Steps<'a> {
         ensures where_it_has_steps { IsSome result ↔ HasSteps field message.now v_k.now count }
         ensures steps_of_that_message { IfSome result (λ e. e ≡ record { field = field; message = take (count + 1) (bits message.now); v_k = take count (bits v_k.now); v = None }) }
     {
-        let sum = nonlinear_bits(v_k, count, field.width()).ok()?;
+        let sum = f_over(field, v_k, count).ok()?;
         Some(Steps {
             field,
             message: Bits::of(message, count.checked_add(1)?)?,
@@ -91,7 +91,7 @@ impl<'a> Steps<'a> {
         ensures every_group { WritesOnOk W.write_str_gives f.old result (groups_text self.now) f.new }
     {
         f.write_str("groups")?;
-        // A group lies at the place of a bit, which no slice lists; so does a pair below.
+        // Each write may fail, and ends this by `?`: a chain reads no plainer.
         for index in 0..self.v_k.len() / self.field.width() as usize {
             write!(f, " {}", Element::of(self.field, self.group(index)))?;
         }
@@ -115,6 +115,7 @@ impl<'a> Steps<'a> {
     fn write_products<W: fmt::Write>(&self, f: &mut fmt::Formatter<W>) -> fmt::Result
         ensures every_product { WritesOnOk W.write_str_gives f.old result (products_text self.now) f.new }
     {
+        // As for the groups.
         for pair in 0..self.v_k.len() / (2 * self.field.width() as usize) {
             self.write_product(pair, f)?;
         }

@@ -69,7 +69,7 @@ impl fmt::Display for Bits<'_> {
     ghost output = { λ shown. Some (digits shown) };
 
     fn fmt<W: fmt::Write>(&self, f: &mut fmt::Formatter<W>) -> fmt::Result {
-        // Bits have places, which no slice lists.
+        // Each write may fail, and ends this by `?`: a chain reads no plainer.
         for done in 0..self.count {
             f.write_str(character(is_set(self.bytes, done)))?;
         }
@@ -103,6 +103,7 @@ impl fmt::Display for Element {
     ghost output = { λ shown. Some (digits shown) };
 
     fn fmt<W: fmt::Write>(&self, f: &mut fmt::Formatter<W>) -> fmt::Result {
+        // The place is a shift amount; as for bits.
         for place in (0..self.field.width()).rev() {
             f.write_str(character((self.value >> place) % 2 == 1))?;
         }

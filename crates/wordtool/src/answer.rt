@@ -1,6 +1,6 @@
 // The answers to requests.
 use crate::request::{Command, Request, Setting};
-use anyhow::{Context, ensure};
+use anyhow::Context;
 use bch::settings::{Long, Worked};
 use inner::code::InnerCode;
 use pagecode::message::inner_data;
@@ -53,6 +53,30 @@ fn print_refusal<W: Write>(
     Ok(())
 }
 
+// The steps of encode for a message, and its codeword.
+fn explain<W: Write, C: InnerCode>(
+    out: &mut W,
+    heap: Global,
+    request: &Request<'_>,
+) -> anyhow::Result<()> {
+    let message = hex::decode(heap, request.digits)?;
+    let mut word = vec![in heap; 0u8; word_bytes::<C>()]?;
+    if let Err(refusal) = encode::<C>(&message, &mut word) {
+        return print_refusal(out, request, refusal);
+    }
+    let inner_bits = C::DATA.saturating_add(C::CHECKS);
+    let mut v = vec![in heap; 0u8; word.len()]?;
+    inner_data(&message, C::DATA, &mut v)?;
+    C::complete(&mut v)?;
+    let steps = Steps::with_v(C::FIELD, &message, &v, C::DATA, inner_bits).context(
+        "the message is no run of pairs of groups",
+    )?;
+    let digits = hex::encode_upper(heap, &word)?;
+    writeln!(out, "{steps}\ncodeword {digits}")?;
+    Ok(())
+}
+
+// The commands are the tool's language, so each is named here with its call.
 fn answer_with<W: Write, C: InnerCode>(
     out: &mut W,
     heap: Global,
@@ -87,28 +111,11 @@ fn answer_with<W: Write, C: InnerCode>(
             data_bytes::<C>(),
             |bytes, data| read_page::<C>(bytes, data).map(|_| None),
         ),
-        Command::Explain => {
-            let message = hex::decode(heap, request.digits)?;
-            let mut word = vec![in heap; 0u8; word_bytes::<C>()]?;
-            if let Err(refusal) = encode::<C>(&message, &mut word) {
-                return print_refusal(out, request, refusal);
-            }
-            let inner_bits = C::DATA.saturating_add(C::CHECKS);
-            let mut v = vec![in heap; 0u8; word.len()]?;
-            ensure!(
-                inner_data(&message, C::DATA, &mut v).is_ok() && C::complete(&mut v).is_ok(),
-                "the inner codeword has no room"
-            );
-            let steps = Steps::with_v(C::FIELD, &message, &v, C::DATA, inner_bits).context(
-                "the message is no run of pairs of groups",
-            )?;
-            let digits = hex::encode_upper(heap, &word)?;
-            writeln!(out, "{steps}\ncodeword {digits}")?;
-            Ok(())
-        }
+        Command::Explain => explain::<W, C>(out, heap, request),
     }
 }
 
+// A setting is a type, so each is named here.
 pub fn answer<W: Write>(out: &mut W, heap: Global, request: &Request<'_>) -> anyhow::Result<()> {
     match request.setting {
         Setting::Worked => answer_with::<W, Worked>(out, heap, request),
