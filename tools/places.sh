@@ -20,7 +20,7 @@ show '3 loops' '^ *(for|while|loop)\b'
 show '4 printing, conversion, copying by hand' 'fn (fmt|name|named|number|of_width|digit|is_digit|are_digits|first_space|bytes_of|byte_or_0|copy_[a-z_]+)\b'
 show '5 constants as parameters' 'const (K1|R1|T|R2): usize|[:<] *[A-Z][0-9a-z]*<[0-9, ]+>|::<[A-Za-z, ]*[0-9]+[0-9, ]*>'
 show '5 requires' '^ *requires '
-show '6 fixed buffers and arrays' '\[[a-z0-9_\[;]+[ a-z0-9\]]*; *[A-Z0-9]+\]'
+show '6 fixed buffers and arrays' '[]a-z0-9_] *; *([0-9]+|[A-Z]+)\]|ArrayVec<'
 show '6 counts beside a buffer' '\b(count|length|len): usize'
 show '7 matches on what to do' '^ *match '
 show '7 closures' '\|[^|]*\| *[^|]'
@@ -33,5 +33,5 @@ for part in src specs proofs; do
     lines=$(git ls-tree -r --name-only "$commit" | grep -E "^crates/[^/]*/$part/" | while read -r f; do git show "$commit:$f"; done | wc -l)
     printf '%-58s %s\n' "8 lines in $part" "$lines"
 done
-answers=$(git grep -hE '^pub [a-z_0-9-]+ : goal\.' "$commit" -- 'crates/*/proofs/*Answers.antt' | grep -c .)
+answers=$(git grep -hE '^pub [A-Za-z_0-9-]+ : goal\.' "$commit" -- 'crates/*/proofs/*Answers.antt' | grep -c .)
 printf '%-58s %s\n' '8 answers' "$answers"
