@@ -1,9 +1,10 @@
 -- The codes in use meet the laws of the trait of inner codes, as they meet those of InnerLaws.
 use Rattle.std.specs.Prelude.{◌++◌}
-use Rattle.std.proofs.Common.{sym, ◌∙◌, lit<, lit≤, refl}
+use Rattle.std.proofs.Common.{sym, ◌∙◌}
 use Rattle.std.proofs.lemmas.List.{append_cancel_left, take_at}
 use Rattle.gf2.specs.declared.field.Field.TheVariants.{Three, Ten}
 use Rattle.inner.specs.Code.{IsInnerCode, Setting}
+use Rattle.inner.specs.Settings.{setting}
 use Rattle.bch.specs.InnerLaws as laws
 use Rattle.bch.specs.InnerLaws.{WordOf}
 use Rattle.bch.specs.Theory.Inner as proved
@@ -30,24 +31,10 @@ module _ (C : Bch) where
   }
 
 pub worked_setting : Setting 18 10 2 3 Three
-worked_setting = record {
-  width_of_a_field = refl;
-  pairs_of_groups = refl;
-  a_byte_at_least = lit≤ tt;
-  tail_as_far_as_the_code = lit≤ tt;
-  tail_above_errors = lit< tt;
-  page_fits = lit≤ tt;
-}
+worked_setting = setting 18 10 2 3 Three tt
 
 pub long_setting : Setting 8200 70 5 10 Ten
-long_setting = record {
-  width_of_a_field = refl;
-  pairs_of_groups = refl;
-  a_byte_at_least = lit≤ tt;
-  tail_as_far_as_the_code = lit≤ tt;
-  tail_above_errors = lit< tt;
-  page_fits = lit≤ tt;
-}
+long_setting = setting 8200 70 5 10 Ten tt
 
 pub worked_inner_code : IsInnerCode 18 10 2 WorkedCodeword worked_checks
 worked_inner_code = inner_code Worked

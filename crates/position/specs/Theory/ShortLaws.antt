@@ -1,11 +1,12 @@
 -- The setting short meets what an inner code and its setting owe. What holds of its labels are computed tests.
 use Rattle.std.specs.Prelude.{◌≡◌, ℕ, ◌^◌, ◌<◌, Bool, true, false, T, ◌≢◌, List, [], ◌∷◌, length, ◌==◌, nat_lt, refl}
-use Rattle.std.proofs.Common.{sym, lit<, lit≤}
+use Rattle.std.proofs.Common.{sym}
 use Rattle.std.specs.Int.Count.{ones, ones_in}
 use Rattle.std.specs.List.{AllByRecursion}
 use Rattle.std.proofs.lemmas.Bool.{eqb-false, ltb-true}
 use Rattle.gf2.specs.declared.field.Field.TheVariants.{Eight}
 use Rattle.inner.specs.Code.{IsInnerCode, Setting}
+use Rattle.inner.specs.Settings.{setting}
 use Rattle.position.specs.Labels.{powers_of_two, no_powers_of_two}
 use Rattle.position.specs.Short.{data_labels, short_labels, ShortCodeword, short_checks}
 use Rattle.position.specs.Theory.LabelSums.{Apart}
@@ -69,11 +70,4 @@ pub short_inner_code : IsInnerCode 544 10 1 ShortCodeword short_checks
 short_inner_code = inner_code 544 10 data_labels data_labels_length (below (2 ^ 10) data_labels small) (apart short_labels distinct)
 
 pub short_setting : Setting 544 10 1 8 Eight
-short_setting = record {
-  width_of_a_field = refl;
-  pairs_of_groups = refl;
-  a_byte_at_least = lit≤ tt;
-  tail_as_far_as_the_code = lit≤ tt;
-  tail_above_errors = lit< tt;
-  page_fits = lit≤ tt;
-}
+short_setting = setting 544 10 1 8 Eight tt
