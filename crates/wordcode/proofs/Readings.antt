@@ -1,12 +1,11 @@
 -- What is read of a word, from what the search near its middle and the choice say.
-use Rattle.std.proofs.Common.{◌≡◌, ℕ, ◌+◌, ◌-◌, ◌≤◌, Bool, false, cond, not, List, length, get_or, take, drop, replicate, Ok, Err, Some, None, Option, Result, sym, refl, ap, ◌∙◌, subst, arith}
+use Rattle.std.proofs.Common.{◌≡◌, ℕ, ◌+◌, ◌-◌, ◌≤◌, Bool, false, cond, not, List, length, get_or, take, drop, Ok, Err, Some, Option, Result, sym, refl, ap, ◌∙◌, subst}
 use mathlib.Core.Bool.{beq}
 use Rattle.gf2.specs.declared.field.Field.{Field}
 use Rattle.gf2.specs.Words.{add, weight, bits}
 use Rattle.gf2.specs.Fields.{width}
-use Rattle.gf2.proofs.Places.{bits_length}
 use Rattle.inner.specs.Code.{IsInnerCode, Setting}
-use Rattle.inner.specs.Nearest.{Nearest, Corrected, LeftAlone}
+use Rattle.inner.specs.Nearest.{Corrected, LeftAlone}
 use Rattle.inner.specs.Pages.{word_bits}
 use Rattle.pagecode.specs.InnerData.{each, with_inner_data}
 use Rattle.wordcode.specs.Codeword.{f_bits}
@@ -24,39 +23,30 @@ use Rattle.wordcode.proofs.WordRead.{nothing_near, found}
 
 module _ {k1 r1 t r2 : ℕ} {F : Field} {Codeword : List Bool → Type 0} {checks : List Bool → List Bool}
     (I : IsInnerCode k1 r1 t Codeword checks) (S : Setting k1 r1 t r2 F)
-    (word : List ℕ) (B V : List Bool) (n : ℕ) (n_is : n ≡ k1 + r1) (enough : word_bits k1 r1 r2 ≤ length (bits word))
-    (taken : B ≡ with_inner_data (bits word) n (bits (replicate 2048 0))) (o : Option ℕ) (near : Nearest (k1 + r1) t Codeword B V o) where
-  O : List Bool
-  O = bits (replicate 2048 0)
-
+    (word : List ℕ) (O B V : List Bool) (n : ℕ) (n_is : n ≡ k1 + r1) (enough : word_bits k1 r1 r2 ≤ length (bits word))
+    (room : k1 + r1 ≤ length O) (taken : B ≡ with_inner_data (bits word) n O) where
   W : List Bool
   W = bits word
 
-  room : k1 + r1 ≤ length O
-  unfolding O
-  room = omega (arith, bits_length (replicate 2048 0), S.page_fits)
-
   y_taken : B ≡ with_inner_data W (k1 + r1) O
-  unfolding O W
-  y_taken = taken ∙ ap (λ (i : ℕ). with_inner_data (bits word) i (bits (replicate 2048 0))) n_is
+  unfolding W
+  y_taken = taken ∙ ap (λ (i : ℕ). with_inner_data (bits word) i O) n_is
 
   -- the same word, its length by the field
   by_field : (a : Answer) → Reads k1 r1 t F checks (take (word_bits k1 r1 r2) W) a → Reads k1 r1 t F checks (take (word_bits k1 r1 (width F)) W) a
   by_field a = subst (λ (r : ℕ). Reads k1 r1 t F checks (take (word_bits k1 r1 r) W) a) S.width_of_a_field
 
-  pub unread : k1 + r1 ≤ length B → o ≡ None → Reads k1 r1 t F checks (take (word_bits k1 r1 (width F)) (bits word)) unreadable
+  pub unread : LeftAlone (k1 + r1) t Codeword B V → k1 + r1 ≤ length B → Reads k1 r1 t F checks (take (word_bits k1 r1 (width F)) (bits word)) unreadable
   unfolding W
-  unread fits none =
-      let left : LeftAlone (k1 + r1) t Codeword B V = subst (Nearest (k1 + r1) t Codeword B V) none near in
+  unread left fits =
       by_field unreadable (nothing_near I S W O B V enough room y_taken (left.none fits))
 
-  pub chosen_reads : (flips turned : ℕ) (c : Option Choice) → o ≡ Some flips
+  pub chosen_reads : (flips turned : ℕ) (c : Option Choice) → Corrected (k1 + r1) t Codeword B V flips
       → turned ≡ cond (not (beq (get_or B 0 false) (get_or V 0 false))) (flips - 1) (flips + 1)
       → c ≡ chosen_by t r2 (get_or (bits word) 0 false) flips turned (last_bits_apart k1 r1 F (bits word) V)
       → Reads k1 r1 t F checks (take (word_bits k1 r1 (width F)) (bits word)) (answer_with (take k1 V) c)
   unfolding W
-  chosen_reads flips turned c some turned_is is =
-      let mended : Corrected (k1 + r1) t Codeword B V flips = subst (Nearest (k1 + r1) t Codeword B V) some near in
+  chosen_reads flips turned c mended turned_is is =
       subst (λ (d : Option Choice). Reads k1 r1 t F checks (take (word_bits k1 r1 (width F)) W) (answer_with (take k1 V) d)) (sym is)
       (by_field (answer_with (take k1 V) (chosen_by t r2 (get_or W 0 false) flips turned (last_bits_apart k1 r1 F W V)))
       (found I S W O B V enough room y_taken (get_or W 0 false) flips (last_bits_apart k1 r1 F W V) turned mended.near mended.counts refl

@@ -1,7 +1,6 @@
 // Words over an inner code.
-ghost use Rattle.std.specs.Prelude.{◌≡◌, ◌+◌, ◌*◌, ◌<◌, ◌≤◌, true, ◌++◌, length, take, drop, if◌then◌else◌, Ok, Err};
+ghost use Rattle.std.specs.Prelude.{◌≡◌, ◌+◌, ◌≤◌, true, ◌++◌, length, take, drop, if◌then◌else◌, Ok, Err};
 ghost use Rattle.gf2.specs.Words.{bits, bits_of};
-ghost use Rattle.gf2.specs.Fields.{width as width_of};
 ghost use Rattle.inner.specs.Pages.{word_bits as word_bits_of};
 ghost use Rattle.wordcode.specs.Codeword.{codeword};
 ghost use Rattle.wordcode.specs.Refusals.{told};
@@ -13,7 +12,7 @@ use crate::last::last_bits;
 use crate::lengths::check_lengths;
 use crate::refusal::Refusal;
 use crate::runs::{Buffer, CLEAR, copy_and_clear, set_bits_behind};
-use crate::settle::{settle, turned_distance};
+use crate::settle::choice_for;
 use crate::sizes::{message_bytes, word_bits, word_bytes};
 use gf2::bits::{is_set, put, put_number};
 use gf2::runs::copy_bits;
@@ -87,13 +86,8 @@ pub fn read<C: InnerCode>(word: &[u8], message: &mut [u8]) -> Result<Reading, Re
 {
     check_lengths(word, word_bytes::<C>(), message, message_bytes::<C>())?;
     check_spare_bits(word, word_bits::<C>())?;
-    // The lengths were tested and a buffer has room, so this does not refuse.
     let mut inner = CLEAR;
-    let _ = inner_data(word, C::DATA + C::CHECKS, &mut inner);
-    let before = is_set(&inner, 0);
-    let flips = C::nearest(&mut inner).ok_or(Refusal::Unreadable)?;
-    let turned = turned_distance(flips, before != is_set(&inner, 0));
-    let choice = settle::<C>(word, &inner, flips, turned).ok_or(Refusal::Unreadable)?;
+    let choice = choice_for::<C>(word, &mut inner).ok_or(Refusal::Unreadable)?;
     write_message::<C>(&inner, choice.u, message);
     Ok(choice.reading)
 }
