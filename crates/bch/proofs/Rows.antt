@@ -4,8 +4,9 @@ use lib.Bits.{bit_xor, xor_assoc, xor_zero_r}
 use Rattle.std.specs.List.{fold, list_all, position, position_from, remove, zip}
 use Rattle.std.proofs.lemmas.Bool.{eqb-true, false≢true, ne_eqb, true≢false}
 use Rattle.std.proofs.lemmas.Iterator.Adapters.{position_from-zero}
-use Rattle.std.proofs.lemmas.List.{append-nil, append_assoc, drop_all, drop_at, drop_more, drop-set-lt, get_or_default, length-take-le, take_all, take_at, take_more_set}
+use Rattle.std.proofs.lemmas.List.{append-nil, append_assoc, drop_all, drop_at, drop_more, drop-set-lt, get_or-drop, drop-drop, length-take-le, take_all, take_at, take_more_set}
 use Rattle.std.proofs.lemmas.List.Quantifiers.{position-Some}
+use Rattle.std.proofs.Math.Seq.{take-append-add}
 use Rattle.gf2.specs.Polynomials.{power}
 use Rattle.bch.specs.Decoding.{all_vanish}
 use Rattle.bch.specs.Elimination.{against, add_scaled, cleared, met_one, sequence}
@@ -90,22 +91,25 @@ module _ (m : ℕ → ℕ → ℕ) where
     abbrev fails : List ℕ → Bool
     fails p = not (eqb (against m p s i) 0)
 
-    -- one polynomial more is cleared
-    pub cleared_turn : (p q v : List ℕ) (ps qs : List (List ℕ)) (k : ℕ) → k < length ps → q ≡ get_or ps k []
+    -- one polynomial more is cleared, and stands a place further up
+    pub cleared_turn : (p q v : List ℕ) (ps qs : List (List ℕ)) (k : ℕ) → k + 1 < length ps → q ≡ get_or ps (k + 1) []
         → v ≡ add_scaled m (m (against m q s i) (inv (against m p s i))) p q
-        → take k ps ++ cleared m inv s i p (drop k ps) ≡ qs
-        → take (k + 1) (set ps k v) ++ cleared m inv s i p (drop (k + 1) (set ps k v)) ≡ qs
+        → take k ps ++ cleared m inv s i p (drop (k + 1) ps) ≡ qs
+        → take (k + 1) (set ps k v) ++ cleared m inv s i p (drop (k + 1 + 1) (set ps k v)) ≡ qs
     unfolding cleared
     cleared_turn p q v ps qs k h eq ev e =
-        ap₂ (λ (x y : List (List ℕ)). x ++ cleared m inv s i p y) (take_more_set ps k v h) (drop-set-lt (k + 1) ps k v (omega arith))
-        ∙ append_assoc (take k ps) (v ∷ []) (cleared m inv s i p (drop (k + 1) ps))
-        ∙ ap (λ (x : List ℕ). take k ps ++ (x ∷ cleared m inv s i p (drop (k + 1) ps))) ev
-        ∙ ap (λ (x : List (List ℕ)). take k ps ++ cleared m inv s i p x) (ap (λ (x : List ℕ). x ∷ drop (k + 1) ps) eq ∙ sym (drop_more ps k [] h))
+        ap₂ (λ (x y : List (List ℕ)). x ++ cleared m inv s i p y) (take_more_set ps k v (omega arith)) (drop-set-lt (k + 1 + 1) ps k v (omega arith))
+        ∙ append_assoc (take k ps) (v ∷ []) (cleared m inv s i p (drop (k + 1 + 1) ps))
+        ∙ ap (λ (x : List ℕ). take k ps ++ (x ∷ cleared m inv s i p (drop (k + 1 + 1) ps))) ev
+        ∙ ap (λ (x : List (List ℕ)). take k ps ++ cleared m inv s i p x) (ap (λ (x : List ℕ). x ∷ drop (k + 1 + 1) ps) eq ∙ sym (drop_more ps (k + 1) [] h))
         ∙ e
 
-    pub cleared_end : (p : List ℕ) (ps qs : List (List ℕ)) (k : ℕ) → length ps ≤ k → take k ps ++ cleared m inv s i p (drop k ps) ≡ qs → ps ≡ qs
+    pub cleared_end : (p : List ℕ) (ps qs : List (List ℕ)) (k : ℕ) → length ps ≡ k + 1 → take k ps ++ cleared m inv s i p (drop (k + 1) ps) ≡ qs → take (length ps - 1) ps ≡ qs
     unfolding cleared
-    cleared_end p ps qs k h e = sym (ap₂ (λ (x y : List (List ℕ)). x ++ cleared m inv s i p y) (take_all k ps h) (drop_all k ps h) ∙ append-nil ps) ∙ e
+    cleared_end p ps qs k h e =
+        ap (λ (n : ℕ). take n ps) (let l : length ps - 1 ≡ k = omega arith in l)
+        ∙ sym (ap (λ (x : List (List ℕ)). take k ps ++ cleared m inv s i p x) (drop_all (k + 1) ps (omega arith)) ∙ append-nil (take k ps))
+        ∙ e
 
     -- no polynomial fails
     pub met_one_none : (n : ℕ) (ps : List (List ℕ)) → position_from fails n ps ≡ None → met_one m inv s i ps ≡ ps
@@ -132,22 +136,30 @@ module _ (m : ℕ → ℕ → ℕ) where
     pub none_fails : (ps qs : List (List ℕ)) → qs ≡ ps → None ≡ position fails qs → met_one m inv s i ps ≡ ps
     none_fails ps qs e h = met_one_none 0 ps (sym (position_from-zero fails ps) ∙ ap (position fails) (sym e) ∙ sym h)
 
-    -- the first that fails is taken out, and those behind it are cleared in place
-    pub first_fails : (ps seen qs xs os : List (List ℕ)) (p : List ℕ) (j : ℕ) → seen ≡ ps → Some j ≡ position fails seen → p ≡ get_or ps j p → qs ≡ remove ps j → xs ≡ qs
-        → length os ≡ length (take (length xs - j) (drop j xs)) → os ≡ cleared m inv s i p (take (length xs - j) (drop j xs))
-        → take (length qs) ((take j xs ++ (os ++ drop (length xs - j) (drop j xs))) ++ drop (length (take j xs ++ (os ++ drop (length xs - j) (drop j xs)))) qs) ≡ met_one m inv s i ps
-    first_fails ps seen qs xs os p j same e ep eq ex l eo =
-        written xs qs os j ex (omega (arith, ap length eq, length-append (take j ps) (drop (suc j) ps), long)) (l ∙ length-take-le (length xs - j) (drop j xs) (omega (arith, length-drop j xs)))
-        ∙ ap₂ ◌++◌ (ap (take j) eq ∙ take_at (take j ps) (drop (suc j) ps) j long) (eo ∙ ap₂ (cleared m inv s i) (ep ∙ get_or_default ps j p [] found.0) behind)
+    -- the first that fails clears those behind it, which move up by a place, and what then stands last goes
+    pub first_fails : (ps seen xs os left : List (List ℕ)) (j : ℕ) → seen ≡ ps → Some j ≡ position fails seen → xs ≡ ps
+        → length os ≡ length (take (length xs - j) (drop j xs))
+        → take (length (take (length xs - j) (drop j xs)) - 1) os
+        ≡ cleared m inv s i (get_or (take (length xs - j) (drop j xs)) 0 []) (drop 1 (take (length xs - j) (drop j xs)))
+        → (let after = take (length ps) ((take j xs ++ (os ++ drop (length xs - j) (drop j xs))) ++ drop (length (take j xs ++ (os ++ drop (length xs - j) (drop j xs)))) ps) in
+        left ≡ take (length after - 1) after)
+        → left ≡ met_one m inv s i ps
+    first_fails ps seen xs os left j same e ex l eo el =
+        el
+        ∙ ap (λ (x : List (List ℕ)). take (length x - 1) x)
+        (written xs ps os j ex (omega (arith, found.0)) (l ∙ length-take-le (length xs - j) (drop j xs) (omega (arith, length-drop j xs))))
+        ∙ ap (λ (n : ℕ). take n (take j ps ++ os)) (let n : length (take j ps ++ os) - 1 ≡ length (take j ps) + (length os - 1) = omega (arith, length-append (take j ps) os, some) in n)
+        ∙ take-append-add (take j ps) os (length os - 1)
+        ∙ ap (λ (x : List (List ℕ)). take j ps ++ x)
+        (ap (λ (n : ℕ). take (n - 1) os) l ∙ eo ∙ ap (λ (x : List (List ℕ)). cleared m inv s i (get_or x 0 []) (drop 1 x)) part
+        ∙ ap₂ (cleared m inv s i) (get_or-drop j ps 0 [] ∙ ap (λ (n : ℕ). get_or ps n []) (let e : j + 0 ≡ j = omega arith in e)) (drop-drop 1 j ps))
         ∙ sym (met_one_some ps j found.0 (unless_0 (against m (get_or ps j []) s i) found.1) (λ k h. if_0 (against m (get_or ps k []) s i) (found.2 k h)))
       where
         found : (j < length ps) × (fails (get_or ps j []) ≡ true) × ((k : ℕ) → k < j → fails (get_or ps k []) ≡ false)
         found = position-Some fails ps j [] (ap (position fails) (sym same) ∙ sym e)
 
-        long : length (take j ps) ≡ j
-        long = length-take-le j ps (omega (arith, found.0))
+        part : take (length xs - j) (drop j xs) ≡ drop j ps
+        part = take_all (length xs - j) (drop j xs) (omega (arith, length-drop j xs)) ∙ ap (drop j) ex
 
-        behind : take (length xs - j) (drop j xs) ≡ drop (j + 1) ps
-        behind =
-            take_all (length xs - j) (drop j xs) (omega (arith, length-drop j xs)) ∙ ap (drop j) (ex ∙ eq) ∙ drop_at (take j ps) (drop (suc j) ps) j long
-            ∙ ap (λ (n : ℕ). drop n ps) (let e : suc j ≡ j + 1 = omega arith in e)
+        some : 1 ≤ length os
+        some = omega (arith, l, ap length part, length-drop j ps, found.0)

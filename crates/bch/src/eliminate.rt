@@ -1,5 +1,5 @@
 // The polynomials that meet the equations of the syndromes, by elimination.
-ghost use Rattle.std.specs.Prelude.{◌≡◌, ◌+◌, ◌<◌, ◌≤◌, bit_xor, fold, nat_eq, not, position, take};
+ghost use Rattle.std.specs.Prelude.{◌≡◌, ◌+◌, ◌-◌, ◌<◌, ◌≤◌, [], bit_xor, fold, nat_eq, not, position, length, take, drop, slice_index_or};
 ghost use Rattle.std.specs.List.{zip};
 ghost use Rattle.arrayvec.specs.ArrayVec.{array_vec_len};
 ghost use Rattle.gf2.specs.Fields.{product};
@@ -59,15 +59,21 @@ impl Equation {
         polys.iter().position(|poly| self.against(poly) != 0)
     }
 
-    // Adds a polynomial that fails it to each of the others so that they meet it.
-    fn clear(&self, first: &Polynomial, others: &mut [Polynomial])
-        ensures others_meet_it { others.new ≡ cleared (product self.now.sequence.field) (inverse_or_0 self.now.sequence.field) (sequence self.now.sequence.members) self.now.i first.now others.old }
+    // Adds the first polynomial, which fails it, to each of those behind it so that they meet it, and moves these up by a place. The vector's `remove`
+    // would move them by memmove, which a caller in C may lack.
+    fn clear(&self, polys: &mut [Polynomial])
+        requires there_is_a_first { 0 < length polys.old }
+        ensures others_meet_it { take (length polys.old - 1) polys.new ≡ cleared (product self.now.sequence.field) (inverse_or_0 self.now.sequence.field) (sequence self.now.sequence.members) self.now.i (slice_index_or polys.old 0 []) (drop 1 polys.old) }
+        ensures as_many { length polys.new ≡ length polys.old }
     {
         let field = self.sequence.field;
-        let scale = field.inverse(self.against(first)).unwrap_or(0);
-        for next in others.iter_mut() {
-            let a = field.product(self.against(next), scale);
-            *next = combined(field, a, first, next);
+        let first = polys[0];
+        let scale = field.inverse(self.against(&first)).unwrap_or(0);
+        // Each moves by a place, so the index is a place in front of it and its own.
+        for k in 0..polys.len() - 1 {
+            let next = polys[k + 1];
+            let a = field.product(self.against(&next), scale);
+            polys[k] = combined(field, a, &first, &next);
         }
     }
 
@@ -77,8 +83,8 @@ impl Equation {
         ensures one_fewer_at_most { array_vec_len polys.old ≤ array_vec_len polys.new + 1 }
     {
         if let Some(j) = self.first_failing(polys) {
-            let first = polys.remove(j);
-            self.clear(&first, &mut polys[j..]);
+            self.clear(&mut polys[j..]);
+            polys.pop();
         }
     }
 }

@@ -8,9 +8,9 @@ use Rattle.bch.proofs.eliminate.Equation.meet.Goals as goal
 pub returns-in-Some-clause-those_that_meet_it : goal.returns-in-Some-clause-those_that_meet_it
 returns-in-Some-clause-those_that_meet_it c =
     let F = c.args.self.now.sequence.field in
-    first_fails (product F) (inverse_or_0 F) (sequence c.args.self.now.sequence.members) c.args.self.now.i c.args.polys.now.items c.deref.result.now c.remove-first.new.self.items c.deref_mut.result.now
-    c.clear.new.others c.remove-first.result c.in-Some.j c.deref.ensures.0 (sym c.in-Some.is ∙ c.first_failing.ensures.first_that_is_not_0) c.remove-first.ensures.value c.remove-first.ensures.items c.deref_mut.ensures.value c.clear.auto.others
-    c.clear.ensures.others_meet_it
+    first_fails (product F) (inverse_or_0 F) (sequence c.args.self.now.sequence.members) c.args.self.now.i c.args.polys.now.items c.deref.result.now c.deref_mut.result.now
+    c.clear.new.polys c.pop.new.self.items c.in-Some.j c.deref.ensures.0 (sym c.in-Some.is ∙ c.first_failing.ensures.first_that_is_not_0) c.deref_mut.ensures.value c.clear.ensures.as_many
+    c.clear.ensures.others_meet_it c.pop.ensures.rest
 
 pub returns-in_default-clause-those_that_meet_it : goal.returns-in_default-clause-those_that_meet_it
 returns-in_default-clause-those_that_meet_it c =
