@@ -75,7 +75,7 @@ pub record Search (C : Bch) (before after : List Bool) (marked : List Bool) : Ty
 
 -- by its steps: r is what the check bits add up to with those that the data ask for, s its syndromes, and ps what the elimination leaves
 pub searched : (C : Bch) (before after : List Bool) (F : Field) (s : List ℕ) (r t : ℕ) (ps : List (List ℕ))
-    → Some r ≡ rest_of_first C before → F ≡ field C → t ≡ errors C → ((j : ℕ) → j < 11 → sequence s j ≡ syndrome (field C) (bits_of (check_bits C) r) j)
+    → Some r ≡ rest_of_first C before → F ≡ field C → t ≡ errors C → ((j : ℕ) → j ≤ errors C + errors C → sequence s j ≡ syndrome (field C) (bits_of (check_bits C) r) j)
     → ps ≡ met_all (product F) (inverse_or_0 F) (sequence s) t 1 (take (t + 1) unit_rows)
     → after ≡ add before (root_marks (field C) ps (word_bits C)) → Search C before after (root_marks (field C) ps (word_bits C))
 searched C before after F s r t ps here eF et each left flipped = record {
@@ -108,7 +108,7 @@ searched C before after F s r t ps here eF et each left flipped = record {
 
     agree : (j : ℕ) → 1 ≤ j → j ≤ errors C + errors C → sequence s j ≡ syndrome K w j
     agree j l u =
-        each j (omega (arith, (tested C).few)) ∙ ap (λ (x : ℕ). syndrome K (bits_of (check_bits C) x) j) er ∙ same_syndromes C before enough j l u
+        each j u ∙ ap (λ (x : ℕ). syndrome K (bits_of (check_bits C) x) j) er ∙ same_syndromes C before enough j l u
 
     solved : ps ≡ met_all (product K) (inverse_or_0 K) (sequence s) (errors C) 1 (take (errors C + 1) unit_rows)
     solved = left ∙ ap₂ (λ (G : Field) (u : ℕ). met_all (product G) (inverse_or_0 G) (sequence s) u 1 (take (u + 1) unit_rows)) eF et

@@ -1,10 +1,10 @@
 // The values of a polynomial at the powers of alpha.
-ghost use Rattle.std.specs.Prelude.{◌≡◌, ℕ, ◌<◌};
+ghost use Rattle.std.specs.Prelude.{◌≡◌, ℕ, ◌+◌, ◌≤◌};
 ghost use Rattle.gf2.specs.Fields.{alpha, product, power};
 ghost use Rattle.gf2.specs.Words.{bits_of};
 ghost use Rattle.bch.specs.Code.{syndrome as syndrome_of};
 ghost use Rattle.bch.specs.Elimination.{sequence};
-ghost use Rattle.bch.specs.Settings.{field, check_bits};
+ghost use Rattle.bch.specs.Settings.{field, errors, check_bits};
 
 use crate::code::Bch;
 use crate::eliminate::Sequence;
@@ -39,14 +39,24 @@ impl Bch {
         sum
     }
 
-    // The syndromes 0 to 10.
+    // The syndrome j up to 2t, and 0 above, since no equation asks for more.
+    fn wanted_syndrome(self, number: u128, j: usize) -> u16
+        ensures up_to_twice_t { j ≤ errors self + errors self → result ≡ syndrome_of (field self) (bits_of (check_bits self) number) j }
+    {
+        if j > 2 * self.errors() {
+            return 0;
+        }
+        self.syndrome(number, j)
+    }
+
+    // The syndromes 0 to 2t, each at its own index.
     pub(crate) fn syndromes(self, number: u128) -> Sequence
         ensures in_the_field { result.field ≡ field self }
-        ensures each_at_its_index { (j : ℕ) → j < 11 → sequence result.members j ≡ syndrome_of (field self) (bits_of (check_bits self) number) j }
+        ensures up_to_twice_t { (j : ℕ) → j ≤ errors self + errors self → sequence result.members j ≡ syndrome_of (field self) (bits_of (check_bits self) number) j }
     {
         Sequence {
             field: self.field(),
-            members: array::from_fn(|j| self.syndrome(number, j)),
+            members: array::from_fn(|j| self.wanted_syndrome(number, j)),
         }
     }
 }

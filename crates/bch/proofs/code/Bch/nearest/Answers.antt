@@ -30,7 +30,7 @@ returns-then-eq c =
     let A = bits c.flip_roots-flips.new.bytes in
     let found = searched C B A c.syndromes.result.field c.syndromes.result.members c.in_ok-rest.rest c.errors.result c.solve-left.result.polys.items
     c.in_ok-rest.ensures.checks_asked_for_and_found c.syndromes.ensures.in_the_field c.errors.ensures.wrong_bits_that_are_corrected
-    c.syndromes.ensures.each_at_its_index c.solve-left.ensures.meet_all_equations c.flip_roots-flips.ensures.flips_the_roots in
+    c.syndromes.ensures.up_to_twice_t c.solve-left.ensures.meet_all_equations c.flip_roots-flips.ensures.flips_the_roots in
     record {
       the_codeword_at_most_t_bits_away_or_none =
           accepted C B A _ found c.flip_roots-flips.result c.flip_roots-flips.ensures.counts_the_roots
@@ -46,7 +46,7 @@ returns c =
     let L = bits c.flip_roots.new.bytes in
     let found = searched C B A c.syndromes.result.field c.syndromes.result.members c.in_ok-rest.rest c.errors.result c.solve-left.result.polys.items
     c.in_ok-rest.ensures.checks_asked_for_and_found c.syndromes.ensures.in_the_field c.errors.ensures.wrong_bits_that_are_corrected
-    c.syndromes.ensures.each_at_its_index c.solve-left.ensures.meet_all_equations c.flip_roots-flips.ensures.flips_the_roots in
+    c.syndromes.ensures.up_to_twice_t c.solve-left.ensures.meet_all_equations c.flip_roots-flips.ensures.flips_the_roots in
     record {
       the_codeword_at_most_t_bits_away_or_none =
           elim c.else-flips-errors.branch [
