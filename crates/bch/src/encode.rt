@@ -58,8 +58,9 @@ impl Bch {
     pub(crate) fn rest(self, word: &[u8]) -> Option<u128>
         ensures checks_asked_for_and_found { result ≡ rest_of_first self (bits word.now) }
     {
-        let asked = self.check_bits(word)?;
+        // What stands there comes first, since a short word has none of it and needs no division.
         let found = wide_number(word, self.data_bits(), self.degree())?;
+        let asked = self.check_bits(word)?;
         Some(asked ^ found)
     }
 
@@ -68,7 +69,10 @@ impl Bch {
         ensures accepts_bits_enough_for_a_codeword { is_ok result ≡ room_for_checks (data_bits self) (check_bits self) (bits word.old) }
         ensures check_bits_follow_the_data { bits word.new ≡ with_checks (data_bits self) (check_bits self) (checks self) (bits word.old) }
     {
-        let checks = self.check_bits(word).ok_or(NoRoom)?;
+        if !holds(word, self.word_bits()) {
+            return Err(NoRoom);
+        }
+        let checks = self.remainder(word, self.data_bits());
         put_number(word, self.data_bits(), self.degree(), checks)
     }
 }

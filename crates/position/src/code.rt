@@ -4,7 +4,7 @@ ghost use Rattle.position.specs.Short.{ShortCodeword, short_checks};
 ghost use Rattle.position.specs.Theory.ShortLaws.{short_inner_code, short_setting};
 
 use crate::labels::{data_sum, place_of, word_sum};
-use gf2::bits::{NoRoom, is_set, put, put_number};
+use gf2::bits::{NoRoom, holds, is_set, put, put_number};
 use gf2::field::Field;
 use inner::code::InnerCode;
 
@@ -42,6 +42,9 @@ impl InnerCode for Short {
 
     // The check bits make the sum of the labels.
     fn complete(word: &mut [u8]) -> Result<(), NoRoom> {
+        if !holds(word, 554) {
+            return Err(NoRoom);
+        }
         put_number(word, 544, 10, u128::from(data_sum(word)))
     }
 
