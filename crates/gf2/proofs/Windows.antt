@@ -1,32 +1,76 @@
--- The number of a short run of bits, read from the three bytes in which it lies.
-use Rattle.std.proofs.Common.{◌≡◌, ℕ, zero, suc, ◌+◌, ◌-◌, ◌*◌, ◌/◌, ◌%◌, ◌^◌, ◌<◌, ◌≤◌, Bool, true, false, cond, leb, eqb, List, [], ◌∷◌, ◌++◌, length, get_or, take, drop, Some, None, Option, sym, refl, ap, ◌∙◌, ap₂, append_assoc, mod-lt, arith, length-drop, take-append-drop, drop-drop, pow_pos, shr-shr}
-use lib.Seq.{take-append-le}
-use Rattle.std.proofs.lemmas.Nat.{shr_high, mod_low}
-use Rattle.std.proofs.lemmas.List.{drop-take, get_or-drop}
+-- Short runs of bits, read from the bytes in which they lie: a number from three, a byte from two.
+use Rattle.std.proofs.Common.{◌≡◌, ℕ, zero, suc, ◌+◌, ◌-◌, ◌*◌, ◌/◌, ◌%◌, ◌^◌, ◌<◌, ◌≤◌, Bool, true, false, cond, leb, eqb, List, [], ◌∷◌, ◌++◌, length, get_or, take, drop, Some, None, Option, sym, refl, ap, ◌∙◌, ap₂, append_assoc, mod-lt, arith, length-drop, take-append-drop, drop-drop, pow_pos, shr-shr, subst, mod-eq_of_lt}
+use lib.Bits.{bit_or, or_shifted}
+use lib.Seq.{take-append-le, take-append-add}
+use Rattle.std.proofs.lemmas.Nat.{shr_high, mod_low, shr_below, shr_le, or_mod}
+use Rattle.std.proofs.lemmas.List.{drop-take, drop-append-le, get_or-drop, take_at}
 use Rattle.std.proofs.lemmas.Bool.{le-leb, lt-leb}
 use Rattle.gf2.specs.Words.{number, bits_of, bits, number_within}
 use Rattle.gf2.proofs.Sums.{bits_of_length}
 use Rattle.gf2.proofs.Digits.{bits_of_mod, number_bits_of}
-use Rattle.gf2.proofs.Places.{bits_append, bits_drop}
+use Rattle.gf2.proofs.Places.{bits_length, bits_append, bits_drop}
 
-bits_of_drop : (o m n : ℕ) → drop o (bits_of (o + m) n) ≡ bits_of m n
+pub bits_of_drop : (o m n : ℕ) → drop o (bits_of (o + m) n) ≡ bits_of m n
 unfolding bits_of
 bits_of_drop zero m n = ap (λ (i : ℕ). bits_of i n) (let e : 0 + m ≡ m = omega arith in e)
 bits_of_drop (suc o) m n = ap (λ (i : ℕ). drop (suc o) (bits_of i n)) (let e : suc o + m ≡ suc (o + m) = omega arith in e) ∙ bits_of_drop o m n
 
-bits_of_take : (k j n : ℕ) → take k (bits_of (k + j) n) ≡ bits_of k (n / 2 ^ j)
+pub bits_of_take : (k j n : ℕ) → take k (bits_of (k + j) n) ≡ bits_of k (n / 2 ^ j)
 unfolding bits_of
 bits_of_take zero j n = refl
 bits_of_take (suc k) j n =
     ap (λ (i : ℕ). take (suc k) (bits_of i n)) (let e : suc k + j ≡ suc (k + j) = omega arith in e)
     ∙ ap₂ ◌∷◌ (ap (λ (x : ℕ). eqb (x % 2) 1) (ap (λ (i : ℕ). n / 2 ^ i) (let e : k + j ≡ j + k = omega arith in e) ∙ sym (shr-shr n j k))) (bits_of_take k j n)
 
--- a byte before j bits
-joined : (j a b : ℕ) → b < 2 ^ j → bits_of 8 a ++ bits_of j b ≡ bits_of (8 + j) (a * 2 ^ j + b)
-joined j a b h =
-    sym (ap₂ ◌++◌ (bits_of_take 8 j (a * 2 ^ j + b) ∙ ap (bits_of 8) (shr_high a j b h))
-    (bits_of_drop 8 j (a * 2 ^ j + b) ∙ sym (bits_of_mod j (a * 2 ^ j + b)) ∙ ap (bits_of j) (mod_low a j b h)))
-    ∙ take-append-drop 8 (bits_of (8 + j) (a * 2 ^ j + b))
+-- k bits before j others
+pub joined : (k j a b : ℕ) → b < 2 ^ j → bits_of k a ++ bits_of j b ≡ bits_of (k + j) (a * 2 ^ j + b)
+joined k j a b h =
+    sym (ap₂ ◌++◌ (bits_of_take k j (a * 2 ^ j + b) ∙ ap (bits_of k) (shr_high a j b h))
+    (bits_of_drop k j (a * 2 ^ j + b) ∙ sym (bits_of_mod j (a * 2 ^ j + b)) ∙ ap (bits_of j) (mod_low a j b h)))
+    ∙ take-append-drop k (bits_of (k + j) (a * 2 ^ j + b))
+
+-- the last bits of a byte before the first s of the next
+across : (s j a b : ℕ) (w : List Bool) → s + j ≡ 8 → b < 256 → bits_of 8 (bit_or (a * 2 ^ s % 256) (b / 2 ^ j)) ≡ take 8 (drop s (bits_of 8 a ++ (bits_of 8 b ++ w)))
+across s j a b w e hb =
+    ap (bits_of 8) byte ∙ bits_of_mod 8 (a * 2 ^ s + q) ∙ ap (λ (i : ℕ). bits_of i (a * 2 ^ s + q)) (let i : 8 ≡ j + s = omega arith in i) ∙ sym (joined j s a q small)
+    ∙ sym
+    (ap (take 8) (drop-append-le s (bits_of 8 a) v (omega (arith, bits_of_length 8 a)) ∙ ap (λ (x : List Bool). x ++ v) last)
+    ∙ ap (λ (i : ℕ). take i (bits_of j a ++ v)) (let i : 8 ≡ length (bits_of j a) + s = omega (arith, bits_of_length j a) in i)
+    ∙ take-append-add (bits_of j a) v s ∙ ap (λ (x : List Bool). bits_of j a ++ x) first)
+  where
+    q : ℕ
+    q = b / 2 ^ j
+
+    v : List Bool
+    v = bits_of 8 b ++ w
+
+    small : q < 2 ^ s
+    small = shr_below b s j (subst (λ (i : ℕ). b < 2 ^ i) (sym e) hb)
+
+    byte : bit_or (a * 2 ^ s % 256) q ≡ (a * 2 ^ s + q) % 2 ^ 8
+    byte =
+        ap (bit_or (a * 2 ^ s % 256)) (sym (mod-eq_of_lt (let h : q < 256 = omega (arith, shr_le b j) in h))) ∙ sym (or_mod (a * 2 ^ s) q 8)
+        ∙ ap (λ (x : ℕ). x % 2 ^ 8) (or_shifted a s q small)
+
+    last : drop s (bits_of 8 a) ≡ bits_of j a
+    last = ap (λ (i : ℕ). drop s (bits_of i a)) (sym e) ∙ bits_of_drop s j a
+
+    first : take s v ≡ bits_of s q
+    first = take-append-le s (bits_of 8 b) w (omega (arith, bits_of_length 8 b)) ∙ ap (λ (i : ℕ). take s (bits_of i b)) (sym e) ∙ bits_of_take s j b
+
+-- the byte behind the first s bits, of the first byte and the next
+pub byte_across : (bs : List ℕ) (s : ℕ) → ((i : ℕ) → get_or bs i 0 < 256) → 0 < s → s < 8 → s + 8 ≤ length (bits bs)
+    → bits_of 8 (bit_or (get_or bs 0 0 * 2 ^ s % 256) (get_or bs 1 0 / 2 ^ (8 - s))) ≡ take 8 (drop s (bits bs))
+unfolding bits
+byte_across [] s low some near h = absurd (omega arith)
+byte_across (a ∷ []) s low some near h = absurd (omega (arith, bits_length (a ∷ [])))
+byte_across (a ∷ b ∷ bs) s low some near h = across s (8 - s) a b (bits bs) (omega arith) (low 1)
+
+-- the first byte
+pub first_byte : (bs : List ℕ) → 8 ≤ length (bits bs) → bits_of 8 (get_or bs 0 0) ≡ take 8 (bits bs)
+unfolding bits
+first_byte [] h = absurd (omega arith)
+first_byte (a ∷ bs) h = sym (take_at (bits_of 8 a) (bits bs) 8 (bits_of_length 8 a))
 
 -- three bytes as one number; past the end they are 0
 abbrev pub three : List ℕ → ℕ
@@ -41,7 +85,7 @@ whole a b c R m hb hc h =
   where
     joint : bits_of 8 a ++ (bits_of 8 b ++ bits_of 8 c) ≡ bits_of 24 ((a * 256 + b) * 256 + c)
     joint =
-        ap (λ (w : List Bool). bits_of 8 a ++ w) (joined 8 b c hc) ∙ joined 16 a (b * 2 ^ 8 + c) (omega arith)
+        ap (λ (w : List Bool). bits_of 8 a ++ w) (joined 8 8 b c hc) ∙ joined 8 16 a (b * 2 ^ 8 + c) (omega arith)
         ∙ ap (bits_of 24) (let e : a * 2 ^ 16 + (b * 2 ^ 8 + c) ≡ (a * 256 + b) * 256 + c = omega arith in e)
 
 -- zero bytes behind do not change the first bits

@@ -91,7 +91,7 @@ pub fn distance(a: &[u8], b: &[u8]) -> Option<u128>
 }
 
 // The byte at that index; 0 past the end.
-fn byte_or_0(bytes: &[u8], at: usize) -> u32
+pub(crate) fn byte_or_0(bytes: &[u8], at: usize) -> u32
     ensures the_byte_or_0 { result ≡ slice_index bytes.now at }
     ensures a_byte { result < 256 }
 {
@@ -134,7 +134,7 @@ pub fn wide_number(bytes: &[u8], skip: usize, count: u32) -> Option<u128>
 }
 
 // Writes the `count` low bits of a number, the highest first, over those behind the first `skip`, which is below 8.
-pub(crate) fn write_number(bytes: &mut [u8], skip: usize, count: u32, number: u128)
+fn write_number(bytes: &mut [u8], skip: usize, count: u32, number: u128)
     requires room { skip + count ≤ length (bits bytes.old) }
     requires small { (skip < 8) × (count ≤ 128) }
     ensures written { bits bytes.new ≡ with_run skip (bits_of count number) (bits bytes.old) }

@@ -1,15 +1,32 @@
 // Runs of bits, copied from bytes to bytes.
-ghost use Rattle.std.specs.Prelude.{◌≡◌, ◌+◌, ◌<◌, ◌≤◌, is_ok, length, take, drop};
+ghost use Rattle.std.specs.Prelude.{◌≡◌, ◌+◌, ◌^◌, ◌<◌, ◌≤◌, is_ok, length, take, drop};
 ghost use Rattle.gf2.specs.Words.{bits, bits_of, with_run, both_have, with_bits_of};
 
-use crate::bits::{NoRoom, hold_behind, number, write_number};
+use crate::bits::{NoRoom, byte_or_0, hold_behind};
 
-// The eight bits behind the first `skip`, as a byte.
+// The eight bits behind the first `skip`, as a byte. Shifts alone, so that LLVM makes the bytes of a run many at once.
+#[tactic(auto, using(crate::proofs::Places::bits_length))]
 fn byte_behind(bytes: &[u8], skip: usize) -> u8
-    requires { skip + 8 ≤ length (bits bytes.now) }
+    requires near { skip < 8 }
+    requires has_them { skip + 8 ≤ length (bits bytes.now) }
     ensures those_bits { bits_of 8 result ≡ take 8 (drop skip (bits bytes.now)) }
 {
-    number(bytes, skip, 8).unwrap_or(0) as u8
+    if skip == 0 {
+        return bytes[0];
+    }
+    (bytes[0] << skip) | (bytes[1] >> (8 - skip))
+}
+
+// The number that `count` bits make, 1 to 8 of them, behind the first `skip`, which lie in two bytes.
+fn few_behind(bytes: &[u8], skip: usize, count: usize) -> u32
+    requires near { skip < 8 }
+    requires few { (0 < count) × (count ≤ 8) }
+    requires has_them { skip + count ≤ length (bits bytes.now) }
+    ensures those_bits { bits_of count result ≡ take count (drop skip (bits bytes.now)) }
+    ensures no_more_bits { result < 2 ^ count }
+{
+    let two = byte_or_0(bytes, 0) * 256 + byte_or_0(bytes, 1);
+    (two >> (16 - (skip + count))) & ((1 << count) - 1)
 }
 
 // The `count` bits behind the first `skip` of bytes that have them.
@@ -22,15 +39,34 @@ struct Run<'a> {
 }
 
 impl Run<'_> {
-    // Copies fewer than 8 bits, one after the other.
+    // Copies bits to places of the first byte of `out`, if there are any.
     fn copy_few(&self, out: &mut [u8], at: usize)
-        requires few { (at < 8) × (self.now.count < 8) }
+        requires near { self.now.skip < 8 }
+        requires within_a_byte { at + self.now.count ≤ 8 }
         requires out_has_room { at + self.now.count ≤ length (bits out.old) }
         ensures copied { bits out.new ≡ with_run at (take self.now.count (drop self.now.skip (bits self.now.bytes.now))) (bits out.old) }
     {
-        let count = self.count as u32;
-        let run = number(self.bytes, self.skip, count).unwrap_or(0);
-        write_number(out, at, count, u128::from(run));
+        if self.count > 0 {
+            self.copy_into_byte(out, at);
+        }
+    }
+
+    // The same of one bit or more, all at once. It stays a call, so that a copy of whole bytes is short enough to be inlined.
+    #[inline(never)]
+    #[tactic(auto, using(crate::proofs::Places::bits_length))]
+    fn copy_into_byte(&self, out: &mut [u8], at: usize)
+        requires some { 0 < self.now.count }
+        requires near { self.now.skip < 8 }
+        requires within_a_byte { at + self.now.count ≤ 8 }
+        requires out_has_room { at + self.now.count ≤ length (bits out.old) }
+        ensures copied { bits out.new ≡ with_run at (take self.now.count (drop self.now.skip (bits self.now.bytes.now))) (bits out.old) }
+    {
+        let run = few_behind(self.bytes, self.skip, self.count);
+        let behind = 8 - at;
+        let past = behind - self.count;
+        let old = u32::from(out[0]);
+        let end = (run << past) | (old & ((1 << past) - 1));
+        out[0] = ((old >> behind << behind) | end) as u8;
     }
 
     // Copies bits over the first of `out`: whole bytes, then the bits that are left.
@@ -80,6 +116,7 @@ impl Run<'_> {
 // Copies the `count` bits behind the first `skip` of the source over those behind the first `at` of `out`. Where either has too few bits, nothing
 // changes.
 #[tactic(auto, using(crate::proofs::Places::bits_length))]
+#[inline]
 pub fn copy_bits(
     source: &[u8],
     skip: usize,
