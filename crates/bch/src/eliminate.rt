@@ -69,7 +69,7 @@ impl Equation {
         let field = self.sequence.field;
         let first = polys[0];
         let scale = field.inverse(self.against(&first)).unwrap_or(0);
-        // Each moves by a place, so the index is a place in front of it and its own.
+        // The index names two places, since each moves to the one in front of its own.
         for k in 0..polys.len() - 1 {
             let next = polys[k + 1];
             let a = field.product(self.against(&next), scale);

@@ -58,7 +58,7 @@ impl Bch {
     pub(crate) fn rest(self, word: &[u8]) -> Option<u128>
         ensures checks_asked_for_and_found { result ≡ rest_of_first self (bits word.now) }
     {
-        // What stands there comes first, since a short word has none of it and needs no division.
+        // Read first, since a word without all of them needs no division.
         let found = wide_number(word, self.data_bits(), self.degree())?;
         let asked = self.check_bits(word)?;
         Some(asked ^ found)

@@ -39,7 +39,7 @@ impl Bch {
         sum
     }
 
-    // The syndrome j up to 2t, and 0 above, since no equation asks for more.
+    // The syndrome j up to 2t, and 0 above: every coefficient that an equation has against those is 0.
     fn wanted_syndrome(self, number: u128, j: usize) -> u16
         ensures up_to_twice_t { j ≤ errors self + errors self → result ≡ syndrome_of (field self) (bits_of (check_bits self) number) j }
     {

@@ -58,7 +58,7 @@ impl Field {
         ensures highest_exponent_of_an_element { result.top ≡ top self }
         ensures lower_terms_of_the_modulus { result.tail ≡ modulus_tail self }
     {
-        // In 16 bits, which the compiler reads from a table; for numbers of 128 it would jump at each step of a product.
+        // As a u16 the compiler reads it from a table; as a u128 it would jump at each step of a product.
         let tail: u16 = match self {
             Field::Three => 0b011,
             Field::Five => 0b0_0101,

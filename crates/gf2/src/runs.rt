@@ -29,19 +29,19 @@ fn few_behind(bytes: &[u8], skip: usize, count: usize) -> u32
     (two >> (16 - (skip + count))) & ((1 << count) - 1)
 }
 
-// The `count` bits behind the first `skip` of bytes that have them.
+// The `count` bits behind the first `skip`, fewer than 8, of bytes that have them.
 #[derive(Clone, Copy)]
 struct Run<'a> {
     bytes: &'a [u8],
     skip: usize,
     count: usize,
+    ghost near: { skip < 8 },
     ghost inside: { skip + count ≤ length (bits bytes.now) },
 }
 
 impl Run<'_> {
-    // Copies bits to places of the first byte of `out`, if there are any.
+    // Copies bits to places of the first byte of `out`; there may be none to copy.
     fn copy_few(&self, out: &mut [u8], at: usize)
-        requires near { self.now.skip < 8 }
         requires within_a_byte { at + self.now.count ≤ 8 }
         requires out_has_room { at + self.now.count ≤ length (bits out.old) }
         ensures copied { bits out.new ≡ with_run at (take self.now.count (drop self.now.skip (bits self.now.bytes.now))) (bits out.old) }
@@ -56,7 +56,6 @@ impl Run<'_> {
     #[tactic(auto, using(crate::proofs::Places::bits_length))]
     fn copy_into_byte(&self, out: &mut [u8], at: usize)
         requires some { 0 < self.now.count }
-        requires near { self.now.skip < 8 }
         requires within_a_byte { at + self.now.count ≤ 8 }
         requires out_has_room { at + self.now.count ≤ length (bits out.old) }
         ensures copied { bits out.new ≡ with_run at (take self.now.count (drop self.now.skip (bits self.now.bytes.now))) (bits out.old) }
@@ -72,7 +71,6 @@ impl Run<'_> {
     // Copies bits over the first of `out`: whole bytes, then the bits that are left.
     #[tactic(auto, using(crate::proofs::Places::bits_length))]
     fn copy_to_front(&self, out: &mut [u8])
-        requires near { self.now.skip < 8 }
         requires out_has_room { self.now.count ≤ length (bits out.old) }
         ensures copied { bits out.new ≡ with_run 0 (take self.now.count (drop self.now.skip (bits self.now.bytes.now))) (bits out.old) }
     {
@@ -92,7 +90,7 @@ impl Run<'_> {
     // Copies bits to a place in the first byte of `out`: those up to the byte's end, then the rest.
     #[tactic(auto, using(crate::proofs::Places::bits_length))]
     fn copy_near(&self, out: &mut [u8], at: usize)
-        requires near { (self.now.skip < 8) × (at < 8) }
+        requires near { at < 8 }
         requires out_has_room { at + self.now.count ≤ length (bits out.old) }
         ensures copied { bits out.new ≡ with_run at (take self.now.count (drop self.now.skip (bits self.now.bytes.now))) (bits out.old) }
     {
