@@ -1,10 +1,10 @@
 -- The elimination's steps on lists, as the code takes them.
 use Rattle.std.proofs.Common.{◌≡◌, ℕ, zero, suc, ◌+◌, ◌-◌, ◌<◌, ◌≤◌, Bool, true, false, cond, not, ◌&&◌, eqb, eq-eqb, ◌≢◌, List, [], ◌∷◌, ◌++◌, length, get_or, take, drop, set, Some, None, sym, refl, ap, ◌∙◌, ap₂, arith, length-append, length-drop}
 use lib.Bits.{bit_xor, xor_assoc, xor_zero_r}
-use Rattle.std.specs.List.{fold, list_all, position, position_from, remove, zip}
+use Rattle.std.specs.List.{fold, list_all, position, position_from, zip}
 use Rattle.std.proofs.lemmas.Bool.{eqb-true, false≢true, ne_eqb, true≢false}
 use Rattle.std.proofs.lemmas.Iterator.Adapters.{position_from-zero}
-use Rattle.std.proofs.lemmas.List.{append-nil, append_assoc, drop_all, drop_at, drop_more, drop-set-lt, get_or-drop, drop-drop, length-take-le, take_all, take_at, take_more_set}
+use Rattle.std.proofs.lemmas.List.{append-nil, append_assoc, drop_all, drop_more, drop-set-lt, get_or-drop, drop-drop, length-take-le, take_all, take_at, take_more_set}
 use Rattle.std.proofs.lemmas.List.Quantifiers.{position-Some}
 use Rattle.std.proofs.Math.Seq.{take-append-add}
 use Rattle.gf2.specs.Polynomials.{power}

@@ -69,6 +69,7 @@ impl Bch {
         ensures accepts_bits_enough_for_a_codeword { is_ok result ≡ room_for_checks (data_bits self) (check_bits self) (bits word.old) }
         ensures check_bits_follow_the_data { bits word.new ≡ with_checks (data_bits self) (check_bits self) (checks self) (bits word.old) }
     {
+        // A short word is refused before any division.
         if !holds(word, self.word_bits()) {
             return Err(NoRoom);
         }

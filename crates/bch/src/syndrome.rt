@@ -39,7 +39,7 @@ impl Bch {
         sum
     }
 
-    // The syndrome j up to 2t, and 0 above: every coefficient that an equation has against those is 0.
+    // The syndrome j, if it is at most 2t: against those above, every coefficient of the polynomials is 0, so they need not be known.
     fn wanted_syndrome(self, number: u128, j: usize) -> u16
         ensures up_to_twice_t { j ≤ errors self + errors self → result ≡ syndrome_of (field self) (bits_of (check_bits self) number) j }
     {

@@ -40,7 +40,7 @@ impl InnerCode for Short {
 
     ghost setting = { short_setting };
 
-    // The check bits make the sum of the labels.
+    // The check bits make the sum of the labels. A short word is refused before they are added.
     fn complete(word: &mut [u8]) -> Result<(), NoRoom> {
         if !holds(word, 554) {
             return Err(NoRoom);
